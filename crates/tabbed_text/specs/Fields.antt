@@ -1,0 +1,66 @@
+-- A text is cut into lines, each ended by byte 10, and a line into fields, parted by tabs (byte 9). Every tab parts two
+-- fields: where tabs meet, and at a line's ends, a field is empty, and an empty line has one field.
+use mathlib.Core.Path.{_≡_}
+use mathlib.Core.Bool.{Bool, true, false, cond, _||_}
+use mathlib.Core.List.{List, [], _∷_, _++_, map}
+use Prim.Native.Nat.{ℕ, suc}
+use lib.Dec.{eqb}
+use Rattle.std.specs.shelf.Lists.{All}
+
+-- what stands before the first s
+abbrev pub up-to : ℕ → List ℕ → List ℕ
+up-to s [] = []
+up-to s (b ∷ bs) = cond (eqb b s) [] (b ∷ up-to s bs)
+
+-- what stands after the first s
+abbrev pub after : ℕ → List ℕ → List ℕ
+after s [] = []
+after s (b ∷ bs) = cond (eqb b s) bs (after s bs)
+
+-- b in front of the first of the pieces
+abbrev pub prepend : ℕ → List (List ℕ) → List (List ℕ)
+prepend b [] = (b ∷ []) ∷ []
+prepend b (f ∷ fs) = (b ∷ f) ∷ fs
+
+-- the pieces between the s
+abbrev pub pieces : ℕ → List ℕ → List (List ℕ)
+pieces s [] = [] ∷ []
+pieces s (b ∷ bs) = cond (eqb b s) ([] ∷ pieces s bs) (prepend b (pieces s bs))
+
+-- the pieces before each s, and one more where the text does not end with s
+abbrev pub ended : ℕ → List ℕ → List (List ℕ)
+ended s [] = []
+ended s (b ∷ bs) = cond (eqb b s) ([] ∷ ended s bs) (prepend b (ended s bs))
+
+-- the fields of the first line
+abbrev pub fields-of : List ℕ → List (List ℕ)
+fields-of bs = pieces 9 (up-to 10 bs)
+
+-- the lines, each by its fields
+abbrev pub lines-of : List ℕ → List (List (List ℕ))
+lines-of bs = map (pieces 9) (ended 10 bs)
+
+-- whether a byte ends a field
+abbrev pub parts : ℕ → Bool
+parts b = eqb b 9 || eqb b 10
+
+-- the fields that follow in the line, where a field has just ended
+abbrev pub more-fields : List ℕ → List (List ℕ)
+more-fields [] = []
+more-fields (b ∷ bs) = cond (eqb b 9) (fields-of bs) []
+
+-- whether a field ends where these bytes begin
+abbrev pub parted : List ℕ → Bool
+parted [] = true
+parted (b ∷ bs) = parts b
+
+-- how many bytes stand before the first tab or byte 10
+abbrev pub field-len : List ℕ → ℕ
+field-len [] = 0
+field-len (b ∷ bs) = cond (parts b) 0 (suc (field-len bs))
+
+-- f is the bytes of xs up to the next tab, byte 10 or the end, and ys is all that follows it
+pub record Field-of (xs f ys : List ℕ) : Type 0 where
+  pub whole : xs ≡ f ++ ys
+  pub unparted : All (λ b. parts b ≡ false) f
+  pub parted-after : parted ys ≡ true

@@ -1,0 +1,32 @@
+// Decimal numbers in the bytes of a field.
+ghost use mathlib.Core.Path.{_≡_};
+ghost use Rattle.tabbed_text.specs.Numbers.{is-digit, number-in};
+
+fn is_digit(b: u8) -> bool
+    ensures { λ r. ⌜ r ≡ is-digit b ⌝ }
+{
+    b >= b'0' && b <= b'9'
+}
+
+// The number, where it is well formed and from `low` to `high`; however long the field is, nothing wraps.
+pub fn number(bytes: &[u8], low: u32, high: u32) -> Option<u32>
+    ensures reads_number { λ r. ⌜ r ≡ number-in low high (now (bytes .entry)) ⌝ }
+{
+    if bytes.is_empty() {
+        return None;
+    }
+    if bytes[0] == b'0' && bytes.len() > 1 {
+        return None;
+    }
+    let mut n: u64 = 0;
+    for b in bytes {
+        if !is_digit(*b) {
+            return None;
+        }
+        n = 10 * n + (*b - b'0') as u64;
+        if n > high as u64 {
+            return None;
+        }
+    }
+    if n < low as u64 { None } else { Some(n as u32) }
+}

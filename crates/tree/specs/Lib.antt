@@ -1,0 +1,4 @@
+pub mod Sets
+pub mod Names
+pub mod Lines
+pub mod Rules
