@@ -1,1 +1,3 @@
 pub mod Decimals
+pub mod Walking
+pub mod NextLines

@@ -64,3 +64,13 @@ pub record Field-of (xs f ys : List ℕ) : Type 0 where
   pub whole : xs ≡ f ++ ys
   pub unparted : All (λ b. parts b ≡ false) f
   pub parted-after : parted ys ≡ true
+
+-- no field follows in the line, and the walk stays
+pub record No-field (xs ys : List ℕ) : Type 0 where
+  pub none : more-fields xs ≡ []
+  pub stays : ys ≡ xs
+
+-- a tab, then the field f, and ys is all that follows it
+pub record Next-field (xs f ys : List ℕ) : Type 0 where
+  pub field : (zs : List ℕ) × (xs ≡ 9 ∷ zs) × Field-of zs f ys
+  pub leads : more-fields xs ≡ f ∷ more-fields ys
