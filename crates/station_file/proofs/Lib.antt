@@ -1,0 +1,7 @@
+pub mod NameWords
+pub mod Places
+pub mod FileReads
+pub mod Keeping
+pub mod Describing
+pub mod Accepting
+pub mod Exactness

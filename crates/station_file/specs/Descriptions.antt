@@ -5,7 +5,7 @@ use mathlib.Core.Bool.{true}
 use mathlib.Core.List.{List, [], _∷_, _++_, map}
 use Prim.Native.Nat.{ℕ, zero, suc, _<_, _≤_}
 use lib.ListN.{length, getD}
-use Rattle.std.specs.shelf.Lists.{Has, joined}
+use Rattle.std.specs.shelf.Lists.{Has}
 use Rattle.std.specs.Written.{decimal}
 use Rattle.std.specs.declared.result.Result.{Result}
 use Rattle.std.specs.declared.result.Result.the-variants.{Ok, Err}
@@ -15,13 +15,9 @@ use Rattle.tree.specs.Sets.{has}
 use Rattle.tree.specs.declared.line.Part.{Part}
 use Rattle.tree.specs.declared.line.Row.{Row}
 use Rattle.tree.specs.declared.line.Line.the-variants as a-line
+use Rattle.tabbed_text.specs.Fields.{tabbed}
 use Rattle.station_file.specs.Records.{gate}
 use Rattle.station_file.specs.declared.faults.StationFault.{StationFault}
-
--- fields with single tabs between them
-abbrev pub tabbed : List (List ℕ) → List ℕ
-tabbed [] = []
-tabbed (f ∷ fs) = f ++ joined (λ g. 9 ∷ g) fs
 
 -- the name of line i of the rows, by its bytes
 abbrev pub name-at : List Row → ℕ → List ℕ

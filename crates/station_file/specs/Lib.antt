@@ -4,3 +4,4 @@ pub mod Names
 pub mod Records
 pub mod Files
 pub mod Descriptions
+pub mod Trees

@@ -1,3 +1,6 @@
+pub mod Chains
 pub mod Decimals
+pub mod Numerals
+pub mod Splitting
 pub mod Walking
 pub mod NextLines

@@ -5,7 +5,7 @@ use mathlib.Core.Bool.{Bool, true, false, cond, _||_}
 use mathlib.Core.List.{List, [], _∷_, _++_, map}
 use Prim.Native.Nat.{ℕ, suc}
 use lib.Dec.{eqb}
-use Rattle.std.specs.shelf.Lists.{All}
+use Rattle.std.specs.shelf.Lists.{All, joined}
 
 -- what stands before the first s
 abbrev pub up-to : ℕ → List ℕ → List ℕ
@@ -35,6 +35,11 @@ ended s (b ∷ bs) = cond (eqb b s) ([] ∷ ended s bs) (prepend b (ended s bs))
 -- the fields of the first line
 abbrev pub fields-of : List ℕ → List (List ℕ)
 fields-of bs = pieces 9 (up-to 10 bs)
+
+-- fields with single tabs between them
+abbrev pub tabbed : List (List ℕ) → List ℕ
+tabbed [] = []
+tabbed (f ∷ fs) = f ++ joined (λ g. 9 ∷ g) fs
 
 -- the lines, each by its fields
 abbrev pub lines-of : List ℕ → List (List (List ℕ))

@@ -117,6 +117,14 @@ impl<'a> Fields<'a> {
         self.at = line_end(self.bytes, self.at);
     }
 
+    // All that is left to read.
+    pub fn rest(&self) -> &'a [u8]
+        ensures is_all_left { λ r. ⌜ now r ≡ remains (now (self .entry)) ⌝ }
+    {
+        let bytes = self.bytes;
+        &bytes[self.at..]
+    }
+
     // Whether nothing is left to read.
     pub fn is_done(&self) -> bool
         ensures tells_end { λ r. ⌜ r ≡ eqb (length (remains (now (self .entry)))) 0 ⌝ }
