@@ -4,3 +4,4 @@ pub mod Numerals
 pub mod Splitting
 pub mod Walking
 pub mod NextLines
+pub mod Placing

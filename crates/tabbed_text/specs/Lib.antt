@@ -2,3 +2,4 @@ pub mod Fields
 pub mod Numbers
 pub mod Questions
 pub mod Remains
+pub mod Writing

@@ -1,3 +1,4 @@
-// Text of tab-parted fields: reading fields and numbers.
+// Text of tab-parted fields: reading fields and numbers, and writing them.
 pub mod fields;
 pub mod numbers;
+pub mod writer;

@@ -1,0 +1,13 @@
+use mathlib.Core.Path.{_≡_, refl}
+use Rattle.ranking.specs.Charges.{charge}
+use Rattle.ranking.proofs.Cents.{whole-cents}
+use Rattle.ranking.proofs.charge.charge.Needs as need
+
+pub returns : need.returns
+returns c =
+    let e : c .in-year .result ≡ charge (c .args .terms .year) (c .args .terms .growth) (c .args .part) = cc in
+    record {
+      is-charge = e;
+      in-whole-cents = whole-cents _ _ (c .args .part) (c .in-year .result) e;
+      answers-worked-cases = refl;
+    }

@@ -1,0 +1,3 @@
+// What makes one set of parts come before another: the charges of parts.
+pub mod charge;
+pub mod terms;
