@@ -4,8 +4,8 @@ use Prim.Native.Nat.{ℕ, zero, suc, _+_, _-_, _*_, _/_, _^_, _<_, _≤_}
 use native.Mathlib.Nat.{mul-le-mul-left, mul-add, mul-sub, pow-suc, pow-le-pow-right}
 use native.Mathlib.Numerals.{add-one}
 use native.Mathlib.Omega.{arith}
-use lib.Dec.{lit<}
-use Rattle.std.proofs.shelf.Tests.{eq-eqb, ne-eqb, cond-true, cond-false}
+use lib.Dec.{eqb, lit<}
+use Rattle.std.proofs.shelf.Tests.{eq-eqb, ne-eqb, cond-true, cond-false, cond-both}
 use Rattle.tree.specs.declared.line.Part.{Part}
 use Rattle.ranking.specs.Charges.{rise, grown, discounted, charge, Least-cents, In-whole-cents}
 
@@ -27,6 +27,13 @@ room price growth i cents e p g h =
     let few : 2 ^ i ≤ 2 ^ 10 = pow-le-pow-right {n = 2} (lit< tt) h in
     let small : cents < 2 ^ 42 = omega (arith, grown-within price growth i g, mul-le-mul-left price few) in
     (omega (arith, mul-le-mul-left cents g), omega (arith, rise-within growth cents g))
+
+pub charge-below : (year growth : ℕ) (part : Part) → part .price < 2 ^ 32 → growth ≤ 200 → year ≤ 10 → charge year growth part < 2 ^ 42
+charge-below year growth part p g h =
+    let few : 2 ^ year ≤ 2 ^ 10 = pow-le-pow-right {n = 2} (lit< tt) h in
+    let now : discounted part < 2 ^ 42 = omega arith in
+    let later : grown (part .price) growth year < 2 ^ 42 = omega (arith, grown-within (part .price) growth year g, mul-le-mul-left (part .price) few) in
+    cond-both (eqb year 0) (discounted part) (grown (part .price) growth year) (λ n. n < 2 ^ 42) (λ _. now) (λ _. later)
 
 pub grown-more : (price growth i cents more : ℕ) → cents ≡ grown price growth i → more ≡ rise growth cents → cents + more ≡ grown price growth (i + 1)
 grown-more price growth i cents more e f = cc (ap (grown price growth) (add-one i))

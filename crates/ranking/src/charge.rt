@@ -51,6 +51,7 @@ fn in_year(part: Part, year: u32, growth: u32) -> u64
 pub fn charge(part: Part, terms: Terms) -> u64
     ensures is_charge { λ r. ⌜ r ≡ charge (terms .year) (terms .growth) part ⌝ }
     ensures in_whole_cents { λ r. ⌜ In-whole-cents (terms .year) (terms .growth) part r ⌝ }
+    ensures has_room { λ r. ⌜ r < 2 ^ 42 ⌝ }
     ensures answers_worked_cases { λ _. ⌜ Worked-out worked ⌝ }
 {
     in_year(part, terms.year(), terms.growth())

@@ -57,6 +57,7 @@ fn read_draft(bytes: &[u8], draft: &mut Draft) -> Result<(), StationFault>
 // Reads a station file into the tree, which stays as it is where the file is refused.
 pub fn read(bytes: &[u8], tree: &mut ReadTree) -> Result<(), StationFault>
     ensures answers_by_the_questions { λ r. ⌜ r ≡ outcome (read-file (now (bytes .entry))) ⌝ }
+    ensures tells_what_is_read { λ r. ⌜ Cases r (λ _. read-file (now (bytes .entry)) ≡ Ok (rows-of (now (tree .exit)))) (λ f. read-file (now (bytes .entry)) ≡ Err f) ⌝ }
     ensures fills_the_tree { λ _. ⌜ rows-of (now (tree .exit)) ≡ rows-or (read-file (now (bytes .entry))) (rows-of (now (tree .entry))) ⌝ }
     ensures reads_exactly { λ r. ⌜ Reads-exactly (now (bytes .entry)) r (rows-of (now (tree .entry))) (rows-of (now (tree .exit))) ⌝ }
 {

@@ -3,3 +3,4 @@ pub mod Numbers
 pub mod Questions
 pub mod Remains
 pub mod Writing
+pub mod Whole

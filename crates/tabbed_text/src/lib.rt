@@ -2,3 +2,4 @@
 pub mod fields;
 pub mod numbers;
 pub mod writer;
+pub mod whole;

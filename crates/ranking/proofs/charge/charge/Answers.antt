@@ -1,6 +1,7 @@
 use mathlib.Core.Path.{_≡_, refl}
+use native.Mathlib.Omega.{arith}
 use Rattle.ranking.specs.Charges.{charge}
-use Rattle.ranking.proofs.Cents.{whole-cents}
+use Rattle.ranking.proofs.Cents.{charge-below, whole-cents}
 use Rattle.ranking.proofs.charge.charge.Needs as need
 
 pub returns : need.returns
@@ -9,5 +10,6 @@ returns c =
     record {
       is-charge = e;
       in-whole-cents = whole-cents _ _ (c .args .part) (c .in-year .result) e;
+      has-room = rw e (charge-below _ _ (c .args .part) (omega arith) (c .args .terms .«growth_within») (c .args .terms .«year_within»));
       answers-worked-cases = refl;
     }

@@ -11,7 +11,7 @@ use Rattle.tabbed_text.proofs.writer.+put_word.Needs as need
 pub returns-then-k-eq0 : need.returns-then-k-eq0
 returns-then-k-eq0 t c =
     let e : unpacked (c .args .k) (c .args .word) ≡ [] = ap (λ j. unpacked j (c .args .word)) (c .if-k-eq0 .taken) in
-    rw e (put-none (c .args .out .now) (c .args .at) (c .fits .at .fits))
+    rw e (put-none (c .args .out .now) (c .args .at))
 
 pub returns : need.returns
 returns t c =

@@ -6,7 +6,7 @@ use Rattle.tabbed_text.proofs.Placing.{put-none, put-then}
 use Rattle.tabbed_text.proofs.writer.put_text.Needs as need
 
 pub loop-b-holds : need.loop-b-holds
-loop-b-holds c = put-none (c .args .out .now) (c .args .at) (c .fits .at .fits)
+loop-b-holds c = put-none (c .args .out .now) (c .args .at)
 
 pub loop-b-again : need.loop-b-again
 loop-b-again c =

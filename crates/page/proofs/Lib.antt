@@ -1,0 +1,5 @@
+pub mod Heading
+pub mod Ordering
+pub mod Exactness
+pub mod Texts
+pub mod Sheets
