@@ -9,6 +9,7 @@ use std::io::Read;
 use std::io::Write;
 
 const INPUT_BYTES: u64 = 20_000;
+
 const PAGE_BYTES: usize = 57_344;
 
 // Writes the first `len` bytes of the page to standard output.

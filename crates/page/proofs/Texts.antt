@@ -9,7 +9,7 @@ use Rattle.page.specs.Pages.{line-of, refused-line}
 use Rattle.page.specs.declared.faults.PageFault.{PageFault}
 
 pub refused-pieces : (f : PageFault) (n l : ℕ) → n ≡ number-of (f .layer) → l ≡ layer-of (f .layer)
-  → codes "refused" ++ ((9 ∷ decimal n) ++ ((9 ∷ []) ++ ((l ∷ []) ++ ((9 ∷ decimal (f .line)) ++ ((9 ∷ decimal (f .field)) ++ (10 ∷ [])))))) ≡ refused-line f
+    → codes "refused" ++ ((9 ∷ decimal n) ++ ((9 ∷ []) ++ ((l ∷ []) ++ ((9 ∷ decimal (f .line)) ++ ((9 ∷ decimal (f .field)) ++ (10 ∷ [])))))) ≡ refused-line f
 refused-pieces f n l p q = rw (p, q) (simp append-assoc)
 
 -- a line of two fields

@@ -39,6 +39,10 @@ pub impl From<StationFault> for PageFault as PageFromStation {
             StationLayer::Field(cause) => PageLayer::Field(cause),
             StationLayer::Station(cause) => PageLayer::Station(cause),
         };
-        PageFault { line: f.line, field: f.field, layer }
+        PageFault {
+            line: f.line,
+            field: f.field,
+            layer,
+        }
     }
 }

@@ -73,13 +73,21 @@ fn order_number(bytes: &[u8], low: u32, high: u32, field: usize) -> Result<u32, 
     ensures value { λ r. ⌜ r ≡ order-number low high field (now (bytes .entry)) ⌝ }
     ensures within { λ r. ⌜ made r (λ n. n ≤ high) ⌝ }
 {
-    number(bytes, low, high).ok_or(PageFault { line: 1, field, layer: PageLayer::Page(PageCause::OrderField) })
+    number(bytes, low, high).ok_or(PageFault {
+        line: 1,
+        field,
+        layer: PageLayer::Page(PageCause::OrderField),
+    })
 }
 
 fn criterion_field(bytes: &[u8]) -> Result<Criterion, PageFault>
     ensures { λ r. ⌜ r ≡ criterion-field (now (bytes .entry)) ⌝ }
 {
-    criterion_of(bytes).ok_or(PageFault { line: 1, field: 3, layer: PageLayer::Page(PageCause::OrderField) })
+    criterion_of(bytes).ok_or(PageFault {
+        line: 1,
+        field: 3,
+        layer: PageLayer::Page(PageCause::OrderField),
+    })
 }
 
 #[derive(Clone, Copy)]
@@ -101,7 +109,12 @@ fn four_fields<'a>(walk: &mut Fields<'a>) -> Option<OrderFields<'a>>
     if walk.next().is_some() {
         return None;
     }
-    Some(OrderFields { year, growth, letter, sets })
+    Some(OrderFields {
+        year,
+        growth,
+        letter,
+        sets,
+    })
 }
 
 fn order_values(f: OrderFields) -> Result<Order, PageFault>
@@ -112,7 +125,12 @@ fn order_values(f: OrderFields) -> Result<Order, PageFault>
     let growth = order_number(f.growth, 0, 200, 2)?;
     let criterion = criterion_field(f.letter)?;
     let sets = order_number(f.sets, 1, 64, 4)?;
-    Ok(Order { year, growth, criterion, sets })
+    Ok(Order {
+        year,
+        growth,
+        criterion,
+        sets,
+    })
 }
 
 // The order of a line by its fields.
@@ -121,7 +139,11 @@ fn order_line(walk: &mut Fields) -> Result<Order, PageFault>
     ensures value { λ r. ⌜ r ≡ order-line (fields-of (remains (now (walk .entry)))) ⌝ }
 {
     let Some(f) = four_fields(walk) else {
-        return Err(PageFault { line: 1, field: 0, layer: PageLayer::Page(PageCause::NoOrder) });
+        return Err(PageFault {
+            line: 1,
+            field: 0,
+            layer: PageLayer::Page(PageCause::NoOrder),
+        });
     };
     order_values(f)
 }
@@ -133,7 +155,11 @@ fn read_order(input: &[u8]) -> Result<Order, PageFault>
     ensures decides { λ r. ⌜ Decides-task (now (input .entry)) r ⌝ }
 {
     if !has_line(input) {
-        return Err(PageFault { line: 1, field: 0, layer: PageLayer::Page(PageCause::NoOrder) });
+        return Err(PageFault {
+            line: 1,
+            field: 0,
+            layer: PageLayer::Page(PageCause::NoOrder),
+        });
     }
     let mut walk = Fields::new(input);
     order_line(&mut walk)

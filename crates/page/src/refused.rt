@@ -56,7 +56,7 @@ fn letter_of(layer: PageLayer) -> u8
 }
 
 // A tab and a number.
-pub fn put_field(w: &mut Writer, n: u64)
+pub(crate) fn put_field(w: &mut Writer, n: u64)
     ensures { λ _. ⌜ Writes (9 ∷ decimal n) (now (w .entry)) (now (w .exit)) ⌝ }
 {
     w.byte(b'\t');
@@ -78,10 +78,14 @@ pub impl Text for PageFault as RefusedLine {
 }
 
 // A text that does not fit the page bytes.
-pub fn no_room() -> PageFault
+pub(crate) fn no_room() -> PageFault
     ensures { λ r. ⌜ r ≡ page-fault 0 0 NoRoom ⌝ }
 {
-    PageFault { line: 0, field: 0, layer: PageLayer::Page(PageCause::NoRoom) }
+    PageFault {
+        line: 0,
+        field: 0,
+        layer: PageLayer::Page(PageCause::NoRoom),
+    }
 }
 
 // Writes the line of a refused page, or nothing where the bytes do not suffice.

@@ -44,7 +44,10 @@ fn charged_at(tree: &ReadTree, i: usize, terms: Terms) -> Option<Charged>
     let line = tree.line(i)?;
     let name = tree.name(i)?;
     match line {
-        Line::Part(part) => Some(Charged { name, cents: charge(part, terms) }),
+        Line::Part(part) => Some(Charged {
+            name,
+            cents: charge(part, terms),
+        }),
         Line::Gate(_) => None,
     }
 }

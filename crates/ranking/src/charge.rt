@@ -47,6 +47,18 @@ fn in_year(part: Part, year: u32, growth: u32) -> u64
     }
 }
 
+// The same, with what it means.
+fn priced(part: Part, year: u32, growth: u32) -> u64
+    requires few_years { ⌜ year ≤ 10 ⌝ }
+    requires low_growth { ⌜ growth ≤ 200 ⌝ }
+    ensures value { λ r. ⌜ r ≡ charge year growth part ⌝ }
+    ensures whole { λ r. ⌜ In-whole-cents year growth part r ⌝ }
+    ensures room { λ r. ⌜ r < 2 ^ 42 ⌝ }
+    ensures worked { λ _. ⌜ Worked-out worked ⌝ }
+{
+    in_year(part, year, growth)
+}
+
 // What the part costs under the terms.
 pub fn charge(part: Part, terms: Terms) -> u64
     ensures is_charge { λ r. ⌜ r ≡ charge (terms .year) (terms .growth) part ⌝ }
@@ -54,7 +66,7 @@ pub fn charge(part: Part, terms: Terms) -> u64
     ensures has_room { λ r. ⌜ r < 2 ^ 42 ⌝ }
     ensures answers_worked_cases { λ _. ⌜ Worked-out worked ⌝ }
 {
-    in_year(part, terms.year(), terms.growth())
+    priced(part, terms.year(), terms.growth())
 }
 
 #[cfg(test)]

@@ -139,22 +139,24 @@ Apart (c ∷ cs) = All (λ d. d ≡ c → ⊥) cs × Apart cs
 
 apart-from : (cs : List ℕ) → ((i j c : ℕ) → i < j → j < length cs → getD cs i c ≡ getD cs j c → ⊥) → Apart cs
 apart-from [] once = tt
-apart-from (c ∷ cs) once =
-    (all-from-getD (λ d. d ≡ c → ⊥) cs 0 (λ j h e. once 0 (suc j) 0 (omega arith) (omega arith) (sym e)),
-     apart-from cs (λ i j d lt h. once (suc i) (suc j) d (omega arith) (omega arith)))
+apart-from (c ∷ cs) once = (
+  all-from-getD (λ d. d ≡ c → ⊥) cs 0 (λ j h e. once 0 (suc j) 0 (omega arith) (omega arith) (sym e)),
+  apart-from cs (λ i j d lt h. once (suc i) (suc j) d (omega arith) (omega arith)),
+)
 
 still-new : (set c : ℕ) (cs : List ℕ) → All (λ d. has set d ≡ false) cs → All (λ d. d ≡ c → ⊥) cs → All (λ d. has (bitOr set (2 ^ c)) d ≡ false) cs
 still-new set c [] new other = tt
-still-new set c (d ∷ cs) new other =
-    (has-or set (2 ^ c) d ∙ or-from (has set d) (has (2 ^ c) d) (new .0) (has-pow c d ∙ ne-eqb d c (other .0)),
-     still-new set c cs (new .1) (other .1))
+still-new set c (d ∷ cs) new other = (
+  has-or set (2 ^ c) d ∙ or-from (has set d) (has (2 ^ c) d) (new .0) (has-pow c d ∙ ne-eqb d c (other .0)),
+  still-new set c cs (new .1) (other .1),
+)
 
 children-found : (line field : ℕ) (above : List Row) (set : ℕ) (cs : List ℕ) → names-ok (names-of above) ≡ true → All (λ c. c < length above) cs
     → All (λ c. has set c ≡ false) cs → Apart cs → children line field above set (fields-at above cs) ≡ Ok (gathering set cs)
 children-found line field above set [] ok low new apart = refl
 children-found line field above set (c ∷ cs) ok low new apart =
     goes (child-field line field set (line-named above (name-from (name-at above c)))) _ c
-      (ap (child-field line field set) (line-found above c (low .0) ok) ∙ cond-false (has set c) _ (Ok c) (new .0))
+    (ap (child-field line field set) (line-found above c (low .0) ok) ∙ cond-false (has set c) _ (Ok c) (new .0))
     ∙ children-found line (suc field) above (bitOr set (2 ^ c)) cs ok (low .1) (still-new set c cs (new .1) (apart .0)) (apart .1)
 
 before-in : (set : ℕ) (cs : List ℕ) → set ⊆ gathering set cs
@@ -220,12 +222,14 @@ number-read low high line field n small lo hi = ap (λ o. up (okOr o (field-faul
 gate-parts : (i set need : ℕ) → line-ok i (gate set need) ≡ true → (set < 2 ^ i) × (ones set ≤ 12) × (0 < ones set → (1 ≤ need) × (need ≤ ones set))
 gate-parts i set need e =
     let p = and-parts (ltb set (2 ^ i) && leb (ones set) 12) (cond (eqb set 0) (leb need 1) (leb 1 need && leb need (ones set))) e in
-    let q = and-parts (ltb set (2 ^ i)) (leb (ones set) 12) (p .0) in
-    (ltb-true set (2 ^ i) (q .0), leb-true (ones set) 12 (q .1),
-     λ some.
-     let ne : set ≡ 0 → ⊥ = λ z. omega (arith, ap ones z, ones-none) in
-     let c = and-parts (leb 1 need) (leb need (ones set)) (sym (cond-false (eqb set 0) (leb need 1) (leb 1 need && leb need (ones set)) (ne-eqb set 0 ne)) ∙ p .1) in
-     (leb-true 1 need (c .0), leb-true need (ones set) (c .1)))
+    let q = and-parts (ltb set (2 ^ i)) (leb (ones set) 12) (p .0) in (
+      ltb-true set (2 ^ i) (q .0),
+      leb-true (ones set) 12 (q .1),
+      λ some.
+          let ne : set ≡ 0 → ⊥ = λ z. omega (arith, ap ones z, ones-none) in
+          let c = and-parts (leb 1 need) (leb need (ones set)) (sym (cond-false (eqb set 0) (leb need 1) (leb 1 need && leb need (ones set)) (ne-eqb set 0 ne)) ∙ p .1) in
+          (leb-true 1 need (c .0), leb-true need (ones set) (c .1)),
+    )
 
 module _ (above : List Row) (r : Row) (kept : line-ok (length above) (r .line) ≡ true) (named : name-ok (r .name) ≡ true) (new : first-named 0 above (r .name) ≡ None)
     (names : names-ok (names-of above) ≡ true) where
@@ -236,15 +240,15 @@ module _ (above : List Row) (r : Row) (kept : line-ok (length above) (r .line) �
 
   good : (letter : ℕ) (kind : Kind) (more : List (List ℕ)) → kind-of (letter ∷ []) ≡ Some kind → parts letter ≡ false → Unparted more
       → ((line : ℕ) → body line above kind more ≡ Ok (r .line)) → Good above r (spelled (r .name) ∷ ((letter ∷ []) ∷ more))
-  good letter kind more is cut fields says = record
-      { some = omega arith
-      ; unparted = (well-unparted (spelled (r .name)) (spelled-well (r .name) named), ((cut, tt), fields))
-      ; reads = λ line.
-          goes (okOr (kind-of (letter ∷ [])) (station-fault line 2 Letter)) _ kind (ap (λ o. okOr o (station-fault line 2 Letter)) is)
-          ∙ goes (up (name-field line (spelled (r .name)))) _ (r .name) (ap (λ o. up (okOr o (field-fault line 1 NotName))) named-read)
-          ∙ goes (new-name line above (r .name)) _ (r .name) (ap (λ o. cond (isSome o) (Err (station-fault line 1 NameTaken)) (Ok (r .name))) new)
-          ∙ goes (body line above kind more) _ (r .line) (says line)
-      }
+  good letter kind more is cut fields says = record {
+    some = omega arith;
+    unparted = (well-unparted (spelled (r .name)) (spelled-well (r .name) named), ((cut, tt), fields));
+    reads = λ line.
+        goes (okOr (kind-of (letter ∷ [])) (station-fault line 2 Letter)) _ kind (ap (λ o. okOr o (station-fault line 2 Letter)) is)
+        ∙ goes (up (name-field line (spelled (r .name)))) _ (r .name) (ap (λ o. up (okOr o (field-fault line 1 NotName))) named-read)
+        ∙ goes (new-name line above (r .name)) _ (r .name) (ap (λ o. cond (isSome o) (Err (station-fault line 1 NameTaken)) (Ok (r .name))) new)
+        ∙ goes (body line above kind more) _ (r .line) (says line);
+  }
 
   part-good : (p : Part) → r .line ≡ a-line.Part p → Good above r (spelled (r .name) ∷ ((69 ∷ []) ∷ part-fields p))
   part-good p is =
@@ -259,11 +263,11 @@ module _ (above : List Row) (r : Row) (kept : line-ok (length above) (r .line) �
       good 69 a-kind.Part (part-fields p) refl refl
       (decimal-unparted (p .rarity) (omega arith), (decimal-unparted (p .class) (omega arith), (decimal-unparted (p .discount) (omega arith), (decimal-unparted (p .price) (omega arith), tt))))
       (λ line.
-        goes (up (number-field 0 60000 line 3 (decimal (p .rarity)))) _ (p .rarity) (number-read 0 60000 line 3 (p .rarity) (omega arith) (omega arith) rarity)
-        ∙ goes (up (number-field 0 9 line 4 (decimal (p .class)))) _ (p .class) (number-read 0 9 line 4 (p .class) (omega arith) (omega arith) class)
-        ∙ goes (up (number-field 0 1000 line 5 (decimal (p .discount)))) _ (p .discount) (number-read 0 1000 line 5 (p .discount) (omega arith) (omega arith) discount)
-        ∙ goes (up (number-field 0 10000000 line 6 (decimal (p .price)))) _ (p .price) (number-read 0 10000000 line 6 (p .price) (omega arith) (omega arith) price)
-        ∙ ap Ok (sym is))
+      goes (up (number-field 0 60000 line 3 (decimal (p .rarity)))) _ (p .rarity) (number-read 0 60000 line 3 (p .rarity) (omega arith) (omega arith) rarity)
+      ∙ goes (up (number-field 0 9 line 4 (decimal (p .class)))) _ (p .class) (number-read 0 9 line 4 (p .class) (omega arith) (omega arith) class)
+      ∙ goes (up (number-field 0 1000 line 5 (decimal (p .discount)))) _ (p .discount) (number-read 0 1000 line 5 (p .discount) (omega arith) (omega arith) discount)
+      ∙ goes (up (number-field 0 10000000 line 6 (decimal (p .price)))) _ (p .price) (number-read 0 10000000 line 6 (p .price) (omega arith) (omega arith) price)
+      ∙ ap Ok (sym is))
 
   module _ (cs : List ℕ) (set need : ℕ) (some : 0 < length cs) (lists : Lists cs set) (is : r .line ≡ gate set need) where
     rules : (set < 2 ^ length above) × (ones set ≤ 12) × (0 < ones set → (1 ≤ need) × (need ≤ ones set))
@@ -305,10 +309,10 @@ module _ (above : List Row) (r : Row) (kept : line-ok (length above) (r .line) �
         let n = rules .2 (omega (arith, count)) in
         good 86 a-kind.Vote (decimal need ∷ fields-at above cs) refl refl (decimal-unparted need (omega (arith, rules .1, n .1)), cut)
         (λ line.
-          cond-true _ _ _ (within 2 13 (decimal need ∷ fields-at above cs) (omega (arith, size)) (omega (arith, size, count, rules .1)))
-          ∙ goes (up (number-field 1 (length (fields-at above cs)) line 3 (decimal need))) _ need
-            (number-read 1 (length (fields-at above cs)) line 3 need (omega (arith, size, count, rules .1)) (n .0) (omega (arith, size, count, n .1)))
-          ∙ then-gate line 4 need refl)
+        cond-true _ _ _ (within 2 13 (decimal need ∷ fields-at above cs) (omega (arith, size)) (omega (arith, size, count, rules .1)))
+        ∙ goes (up (number-field 1 (length (fields-at above cs)) line 3 (decimal need))) _ need
+        (number-read 1 (length (fields-at above cs)) line 3 need (omega (arith, size, count, rules .1)) (n .0) (omega (arith, size, count, n .1)))
+        ∙ then-gate line 4 need refl)
 
   always-good : r .line ≡ gate 0 0 → Good above r (spelled (r .name) ∷ ((84 ∷ []) ∷ []))
   always-good is = good 84 a-kind.Always [] refl refl tt (λ line. ap Ok (sym is))
@@ -331,7 +335,7 @@ rows-read : (above : List Row) (bs : List ℕ) (more : List Row) → Describes-a
 rows-read above bs [] d lines names few = ap (λ x. read-rows above (lines-of x)) d ∙ ap Ok (sym (append-nil above))
 rows-read above bs (r ∷ rs) d lines names few =
     let g = said above r (subst (λ k. line-ok k (r .line) ≡ true) (zero-add (length above)) (line-there 0 above r rs lines)) (name-there above r rs names)
-        (name-new 0 above r rs names) (names-above above (r ∷ rs) names) (d .0) (d .3) in
+    (name-new 0 above r rs names) (names-above above (r ∷ rs) names) (d .0) (d .3) in
     let whole : (above ++ (r ∷ [])) ++ rs ≡ above ++ (r ∷ rs) = append-assoc above (r ∷ []) rs in
     let room : length above < 64 = omega (arith, length-append above (r ∷ rs)) in
     ap (λ x. read-rows above (lines-of x)) (d .2)
@@ -339,7 +343,7 @@ rows-read above bs (r ∷ rs) d lines names few =
     ∙ cond-false (leb 64 (length above)) _ _ (lt-leb 64 (length above) room)
     ∙ goes (record-of (suc (length above)) above (d .0)) _ r (g .reads (suc (length above)))
     ∙ rows-read (above ++ (r ∷ [])) (d .1) rs (d .4) (subst (λ x. lines-ok 0 x ≡ true) (sym whole) lines) (subst (λ x. names-ok (names-of x) ≡ true) (sym whole) names)
-      (subst (λ x. length x ≤ 64) (sym whole) few)
+    (subst (λ x. length x ≤ 64) (sym whole) few)
     ∙ ap Ok whole
 
 -- ---- the file's end

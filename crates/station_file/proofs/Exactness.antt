@@ -38,7 +38,7 @@ ok-is (Ok x) rows e s = ap Ok s
 ok-is (Err x) rows e s = absurd (never-ok x (sym e))
 
 described : (bs : List ℕ) (old : List Row) (r : Result (List Row) StationFault) → read-file bs ≡ r → outcome r ≡ Ok tt
-  → Describes bs (rows-or r old) × (keeps-rules (rows-or r old) ≡ true) × (length bs ≤ 16384)
+    → Describes bs (rows-or r old) × (keeps-rules (rows-or r old) ≡ true) × (length bs ≤ 16384)
 described bs old (Ok rows) e told = let d = read-describes bs rows e in (d .0, file-keeps bs rows e, d .1)
 described bs old (Err f) e told = absurd (never-ok f told)
 
@@ -79,8 +79,8 @@ refuses-exactly bs f old e = reads-exactly bs old old (Err f) (sym (ap outcome e
 
 -- what the lines give, as the answer and the rows told
 pub told : (bs : List ℕ) (r : Result (Unit {0}) StationFault) (rows : List Row) → read-file bs ≡ read-rows [] (lines-of bs)
-  → r ≡ outcome (read-rows [] (lines-of bs)) → rows-or (read-rows [] (lines-of bs)) rows ≡ rows
-  → Cases r (λ _. read-file bs ≡ Ok rows) (λ f. read-file bs ≡ Err f) × made r (λ _. keeps-rules rows ≡ true)
-  × Cases r (λ _. Unit {0}) (λ f. (old : List Row) → Reads-exactly bs (Err f) old old)
+    → r ≡ outcome (read-rows [] (lines-of bs)) → rows-or (read-rows [] (lines-of bs)) rows ≡ rows
+    → Cases r (λ _. read-file bs ≡ Ok rows) (λ f. read-file bs ≡ Err f) × made r (λ _. keeps-rules rows ≡ true)
+    × Cases r (λ _. Unit {0}) (λ f. (old : List Row) → Reads-exactly bs (Err f) old old)
 told bs (Ok tt) rows e is left = let k = e ∙ ok-is (read-rows [] (lines-of bs)) rows is left in (k, file-keeps bs rows k, tt)
 told bs (Err f) rows e is left = let k = e ∙ err-is (read-rows [] (lines-of bs)) f is in (k, tt, λ old. refuses-exactly bs f old k)

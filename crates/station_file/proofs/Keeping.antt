@@ -64,10 +64,10 @@ part-numbers-ok line r c d p l i e =
     let is : a-line.Part (record { rarity = w₁ .first; class = w₂ .first; discount = w₃ .first; price = w₄ .first }) ≡ l = cc (w₄ .next) in
     subst (λ x. line-ok i x ≡ true) is
     (and-from _ _ (and-from _ _ (and-from _ _
-      (le-leb (w₁ .first) 60000 (number-within 0 60000 line 3 r (w₁ .first) (w₁ .was) .1))
-      (le-leb (w₂ .first) 9 (number-within 0 9 line 4 c (w₂ .first) (w₂ .was) .1)))
-      (le-leb (w₃ .first) 1000 (number-within 0 1000 line 5 d (w₃ .first) (w₃ .was) .1)))
-      (le-leb (w₄ .first) 10000000 (number-within 0 10000000 line 6 p (w₄ .first) (w₄ .was) .1)))
+    (le-leb (w₁ .first) 60000 (number-within 0 60000 line 3 r (w₁ .first) (w₁ .was) .1))
+    (le-leb (w₂ .first) 9 (number-within 0 9 line 4 c (w₂ .first) (w₂ .was) .1)))
+    (le-leb (w₃ .first) 1000 (number-within 0 1000 line 5 d (w₃ .first) (w₃ .was) .1)))
+    (le-leb (w₄ .first) 10000000 (number-within 0 10000000 line 6 p (w₄ .first) (w₄ .was) .1)))
 
 part-body-ok : (line : ℕ) (fs : List (List ℕ)) (l : Line) (i : ℕ) → part-body line fs ≡ Ok l → line-ok i l ≡ true
 part-body-ok line [] l i e = refused _ l _ e
@@ -107,7 +107,7 @@ gathered line field rows set (f ∷ fs) out low e =
     let c = child-is line field set (line-named rows (name-from f)) (w .first) (w .was) in
     let lt = line-low rows (name-from f) (w .first) (c .0) in
     let more : Below (length rows) (bitOr set (2 ^ (w .first))) = λ i h.
-        ⊎-elim (λ p. low i p) (λ p. let q = only-one (w .first) i p in omega arith) (or-in set (2 ^ (w .first)) i h) in
+    ⊎-elim (λ p. low i p) (λ p. let q = only-one (w .first) i p in omega arith) (or-in set (2 ^ (w .first)) i h) in
     let k = gathered line (suc field) rows (bitOr set (2 ^ (w .first))) fs out more (w .next) in
     (k .0, omega (arith, k .1, one-more set (w .first) (c .1)))
 
@@ -220,9 +220,10 @@ So-far rows = (lines-ok 0 rows ≡ true) × (names-ok (names-of rows) ≡ true)
 
 row-more : (rows : List Row) (r : Row) → So-far rows → line-ok (length rows) (r .line) ≡ true → name-ok (r .name) ≡ true → among (r .name) (names-of rows) ≡ false
     → So-far (rows ++ (r ∷ []))
-row-more rows r so kept ok new =
-    (lines-push 0 rows r (so .0) (subst (λ k. line-ok k (r .line) ≡ true) (sym (zero-add (length rows))) kept),
-     ap names-ok (map-push (λ r. r .name) rows r) ∙ names-push (names-of rows) (r .name) (so .1) ok new)
+row-more rows r so kept ok new = (
+  lines-push 0 rows r (so .0) (subst (λ k. line-ok k (r .line) ≡ true) (sym (zero-add (length rows))) kept),
+  ap names-ok (map-push (λ r. r .name) rows r) ∙ names-push (names-of rows) (r .name) (so .1) ok new,
+)
 
 row-ok : (line : ℕ) (rows : List Row) (first : List ℕ) (others : List (List ℕ)) (r : Row) → So-far rows → row-of line rows first others ≡ Ok r → So-far (rows ++ (r ∷ []))
 row-ok line rows first others r so e =

@@ -44,8 +44,9 @@ pub take-min : (bs : List ℕ) → (take (min (length bs) 8) bs ≡ take 8 bs) �
 take-min bs =
     ⊎-elim
     (λ few.
-      let e : min (length bs) 8 ≡ length bs = omega arith in
-      (ap (λ n. take n bs) e ∙ take-all (length bs) bs (omega arith) ∙ sym (take-all 8 bs (omega arith)),
-       ap (λ n. drop n bs) e ∙ drop-all (length bs) bs (omega arith) ∙ sym (drop-all 8 bs (omega arith))))
+    let e : min (length bs) 8 ≡ length bs = omega arith in (
+      ap (λ n. take n bs) e ∙ take-all (length bs) bs (omega arith) ∙ sym (take-all 8 bs (omega arith)),
+      ap (λ n. drop n bs) e ∙ drop-all (length bs) bs (omega arith) ∙ sym (drop-all 8 bs (omega arith)),
+    ))
     (λ many. let e : min (length bs) 8 ≡ 8 = omega arith in (ap (λ n. take n bs) e, ap (λ n. drop n bs) e))
     (cases-lt (length bs) 8)

@@ -8,7 +8,6 @@ use native.Mathlib.Omega.{arith}
 use lib.ListN.{length, getD, take, drop, length-take}
 use Rattle.std.proofs.shelf.Lists.{getD-take, length-take-le, at-drop-more, at-drop-all}
 use Rattle.std.proofs.shelf.Maps.{nth-getD, nth-past}
-use Rattle.std.specs.Options.{mapped}
 use Rattle.std.specs.shelf.Maps.{nth}
 use Rattle.std.specs.declared.option.Option.the-variants.{Some, None}
 use Rattle.tree.specs.Names.{same-name}
@@ -16,17 +15,17 @@ use Rattle.tree.specs.declared.line.Row.{Row}
 use Rattle.tree.specs.declared.line.Name.{Name}
 use Rattle.station_file.specs.Names.{first-named}
 
-module _ {X Y : Type 0} (f : X → Y) (n : ℕ) (xs : List X) (i : ℕ) (fits : n ≤ length xs) where
-  pub at-front : (d : X) → i < n → Some (f (getD xs i d)) ≡ mapped f (nth (take n xs) i)
+module _ {X : Type 0} (n : ℕ) (xs : List X) (i : ℕ) (fits : n ≤ length xs) where
+  pub at-front : (d : X) → i < n → Some (getD xs i d) ≡ nth (take n xs) i
   at-front d h =
       let l : i < length (take n xs) = omega (arith, length-take-le n xs fits) in
-      sym (ap (mapped f) (nth-getD (take n xs) i d l ∙ ap Some (getD-take n xs i d h)))
+      sym (nth-getD (take n xs) i d l ∙ ap Some (getD-take n xs i d h))
 
-  pub past-front : n ≤ i → None ≡ mapped f (nth (take n xs) i)
-  past-front h = sym (ap (mapped f) (nth-past (take n xs) i (omega (arith, length-take-le n xs fits))))
+  pub past-front : n ≤ i → None ≡ nth (take n xs) i
+  past-front h = sym (nth-past (take n xs) i (omega (arith, length-take-le n xs fits)))
 
 pub first-step : (n : ℕ) (rows : List Row) (i : ℕ) (d : Row) (nm : Name) → i < n → n ≤ length rows
-  → first-named i (drop i (take n rows)) nm ≡ cond (same-name (getD rows i d .name) nm) (Some i) (first-named (i + 1) (drop (i + 1) (take n rows)) nm)
+    → first-named i (drop i (take n rows)) nm ≡ cond (same-name (getD rows i d .name) nm) (Some i) (first-named (i + 1) (drop (i + 1) (take n rows)) nm)
 first-step n rows i d nm h k =
     let l : i < length (take n rows) = omega (arith, length-take-le n rows k) in
     at-drop-more (λ xs. first-named i xs nm) (take n rows) i d l

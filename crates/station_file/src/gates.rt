@@ -31,7 +31,13 @@ fn is_within(n: usize, low: usize, high: usize) -> bool
 }
 
 // The line that the field names, where it is above and not yet in the set.
-fn child(draft: &Draft, bytes: &[u8], set: u64, line: usize, field: usize) -> Result<usize, StationFault>
+fn child(
+    draft: &Draft,
+    bytes: &[u8],
+    set: u64,
+    line: usize,
+    field: usize,
+) -> Result<usize, StationFault>
     ensures value { λ r. ⌜ r ≡ child-field line field set (line-named (above (now (draft .entry))) (name-from (now (bytes .entry)))) ⌝ }
     ensures within { λ r. ⌜ made r (λ i. i < 64) ⌝ }
 {
@@ -40,16 +46,29 @@ fn child(draft: &Draft, bytes: &[u8], set: u64, line: usize, field: usize) -> Re
         None => None,
     };
     let Some(i) = found else {
-        return Err(StationFault { line, field, layer: StationLayer::Station(StationCause::UnknownChild) });
+        return Err(StationFault {
+            line,
+            field,
+            layer: StationLayer::Station(StationCause::UnknownChild),
+        });
     };
     if has(set, i) {
-        return Err(StationFault { line, field, layer: StationLayer::Station(StationCause::ChildTwice) });
+        return Err(StationFault {
+            line,
+            field,
+            layer: StationLayer::Station(StationCause::ChildTwice),
+        });
     }
     Ok(i)
 }
 
 // The set of the lines that the fields left in the line name; `first` is the number of the first of them.
-fn children(walk: &mut Fields, draft: &Draft, line: usize, first: usize) -> Result<u64, StationFault>
+fn children(
+    walk: &mut Fields,
+    draft: &Draft,
+    line: usize,
+    first: usize,
+) -> Result<u64, StationFault>
     requires { ⌜ first + length (more-fields (remains (now walk))) ≤ 20 ⌝ }
     ensures value { λ r. ⌜ r ≡ children-of line first (above (now (draft .entry))) 0 (more-fields (remains (now (walk .entry)))) ⌝ }
     ensures rest { λ _. ⌜ after 10 (remains (now (walk .exit))) ≡ after 10 (remains (now (walk .entry))) ⌝ }
@@ -74,7 +93,10 @@ pub fn all_body(walk: &mut Fields, draft: &Draft, line: usize) -> Result<Line, S
         return Err(miscounted(line));
     }
     let set = children(walk, draft, line, 3)?;
-    Ok(Line::Gate(Gate { children: set, need: count as u8 }))
+    Ok(Line::Gate(Gate {
+        children: set,
+        need: count as u8,
+    }))
 }
 
 // A gate that needs one of them.
@@ -86,7 +108,10 @@ pub fn any_body(walk: &mut Fields, draft: &Draft, line: usize) -> Result<Line, S
         return Err(miscounted(line));
     }
     let set = children(walk, draft, line, 3)?;
-    Ok(Line::Gate(Gate { children: set, need: 1 }))
+    Ok(Line::Gate(Gate {
+        children: set,
+        need: 1,
+    }))
 }
 
 // A gate that needs as many as its third field says.
@@ -103,7 +128,10 @@ pub fn vote_body(walk: &mut Fields, draft: &Draft, line: usize) -> Result<Line, 
     };
     let need = number_field(digits, 1, (count - 1) as u32, line, 3)?;
     let set = children(walk, draft, line, 4)?;
-    Ok(Line::Gate(Gate { children: set, need: need as u8 }))
+    Ok(Line::Gate(Gate {
+        children: set,
+        need: need as u8,
+    }))
 }
 
 // A gate without children.

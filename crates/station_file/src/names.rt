@@ -54,5 +54,9 @@ pub fn name_of(bytes: &[u8]) -> Option<Name>
     let n = bytes.len();
     let cut = n.min(8);
     let (head, tail) = bytes.split_at(cut);
-    Some(Name { head: word_of(head), tail: word_of(tail), len: n as u8 })
+    Some(Name {
+        head: word_of(head),
+        tail: word_of(tail),
+        len: n as u8,
+    })
 }

@@ -22,18 +22,32 @@ use tree::line::Line;
 use tree::line::Part;
 
 // The number in field `field` of line `line`.
-pub fn number_field(bytes: &[u8], low: u32, high: u32, line: usize, field: usize) -> Result<u32, FieldFault>
+pub fn number_field(
+    bytes: &[u8],
+    low: u32,
+    high: u32,
+    line: usize,
+    field: usize,
+) -> Result<u32, FieldFault>
     ensures value { λ r. ⌜ r ≡ number-field low high line field (now (bytes .entry)) ⌝ }
     ensures within { λ r. ⌜ made r (λ n. n ≤ high) ⌝ }
 {
-    number(bytes, low, high).ok_or(FieldFault { line, field, cause: FieldCause::NotNumber })
+    number(bytes, low, high).ok_or(FieldFault {
+        line,
+        field,
+        cause: FieldCause::NotNumber,
+    })
 }
 
 // A fault of the whole line: its count of fields.
 pub fn miscounted(line: usize) -> StationFault
     ensures { λ r. ⌜ r ≡ station-fault line 0 FieldCount ⌝ }
 {
-    StationFault { line, field: 0, layer: StationLayer::Station(StationCause::FieldCount) }
+    StationFault {
+        line,
+        field: 0,
+        layer: StationLayer::Station(StationCause::FieldCount),
+    }
 }
 
 #[derive(Clone, Copy)]
@@ -56,7 +70,12 @@ fn part_fields<'a>(walk: &mut Fields<'a>) -> Option<PartFields<'a>>
     if walk.next().is_some() {
         return None;
     }
-    Some(PartFields { rarity, class, discount, price })
+    Some(PartFields {
+        rarity,
+        class,
+        discount,
+        price,
+    })
 }
 
 fn part_numbers(f: PartFields, line: usize) -> Result<Line, StationFault>
@@ -66,7 +85,12 @@ fn part_numbers(f: PartFields, line: usize) -> Result<Line, StationFault>
     let class = number_field(f.class, 0, 9, line, 4)?;
     let discount = number_field(f.discount, 0, 1_000, line, 5)?;
     let price = number_field(f.price, 0, 10_000_000, line, 6)?;
-    Ok(Line::Part(Part { rarity, class: class as u8, discount: discount as u16, price }))
+    Ok(Line::Part(Part {
+        rarity,
+        class: class as u8,
+        discount: discount as u16,
+        price,
+    }))
 }
 
 // The part that the fields after the letter say.

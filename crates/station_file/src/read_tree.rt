@@ -7,6 +7,7 @@ ghost use Rattle.tree.specs.Rules.{keeps-rules};
 use tree::line::Row;
 
 mod answers;
+mod filling;
 
 pub use answers::ReadTreeTree;
 

@@ -29,7 +29,11 @@ fn read_rows(bytes: &[u8], draft: &mut Draft) -> Result<(), StationFault>
     while !walk.is_done() {
         let line = draft.count() + 1;
         if line > 64 {
-            return Err(StationFault { line, field: 0, layer: StationLayer::Station(StationCause::TooManyLines) });
+            return Err(StationFault {
+                line,
+                field: 0,
+                layer: StationLayer::Station(StationCause::TooManyLines),
+            });
         }
         let row = read_row(&mut walk, draft, line)?;
         walk.end_line();
@@ -46,10 +50,18 @@ fn read_draft(bytes: &[u8], draft: &mut Draft) -> Result<(), StationFault>
     ensures exact { λ r. ⌜ Cases r (λ _. Unit {0}) (λ f. (old : List Row) → Reads-exactly (now (bytes .entry)) (Err f) old old) ⌝ }
 {
     if bytes.is_empty() || bytes.len() > 16_384 {
-        return Err(StationFault { line: 0, field: 0, layer: StationLayer::Station(StationCause::Size) });
+        return Err(StationFault {
+            line: 0,
+            field: 0,
+            layer: StationLayer::Station(StationCause::Size),
+        });
     }
     if bytes[bytes.len() - 1] != b'\n' {
-        return Err(StationFault { line: 0, field: 0, layer: StationLayer::Station(StationCause::NoEnd) });
+        return Err(StationFault {
+            line: 0,
+            field: 0,
+            layer: StationLayer::Station(StationCause::NoEnd),
+        });
     }
     read_rows(bytes, draft)
 }

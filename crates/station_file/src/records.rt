@@ -30,7 +30,11 @@ fn kind_field(walk: &mut Fields, line: usize) -> Result<Kind, StationFault>
     ensures more { λ _. ⌜ more-fields (remains (now (walk .exit))) ≡ drop 1 (more-fields (remains (now (walk .entry)))) ⌝ }
     ensures rest { λ _. ⌜ after 10 (remains (now (walk .exit))) ≡ after 10 (remains (now (walk .entry))) ⌝ }
 {
-    let fault = StationFault { line, field: 2, layer: StationLayer::Station(StationCause::Letter) };
+    let fault = StationFault {
+        line,
+        field: 2,
+        layer: StationLayer::Station(StationCause::Letter),
+    };
     match walk.next() {
         Some(f) => record_kind(f).ok_or(fault),
         None => Err(fault),
@@ -40,14 +44,22 @@ fn kind_field(walk: &mut Fields, line: usize) -> Result<Kind, StationFault>
 fn name_field(bytes: &[u8], line: usize) -> Result<Name, FieldFault>
     ensures { λ r. ⌜ r ≡ name-field line (now (bytes .entry)) ⌝ }
 {
-    name_of(bytes).ok_or(FieldFault { line, field: 1, cause: FieldCause::NotName })
+    name_of(bytes).ok_or(FieldFault {
+        line,
+        field: 1,
+        cause: FieldCause::NotName,
+    })
 }
 
 fn new_name(draft: &Draft, name: Name, line: usize) -> Result<Name, StationFault>
     ensures { λ r. ⌜ r ≡ new-name line (above (now (draft .entry))) name ⌝ }
 {
     if draft.find(name).is_some() {
-        return Err(StationFault { line, field: 1, layer: StationLayer::Station(StationCause::NameTaken) });
+        return Err(StationFault {
+            line,
+            field: 1,
+            layer: StationLayer::Station(StationCause::NameTaken),
+        });
     }
     Ok(name)
 }
@@ -76,5 +88,8 @@ pub fn read_row(walk: &mut Fields, draft: &Draft, line: usize) -> Result<Row, St
     let name = name_field(first, line)?;
     let fresh = new_name(draft, name, line)?;
     let found = body(walk, draft, kind, line)?;
-    Ok(Row { line: found, name: fresh })
+    Ok(Row {
+        line: found,
+        name: fresh,
+    })
 }

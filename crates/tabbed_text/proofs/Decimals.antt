@@ -10,7 +10,11 @@ use Rattle.std.proofs.shelf.Tests.{and-from, and-left, and-right, or-from, le-l
 use Rattle.std.proofs.shelf.Lists.{at-drop-more, at-drop-all}
 use Rattle.std.proofs.shelf.Ways.{tells}
 use Rattle.std.specs.declared.option.Option.the-variants.{Some, None}
-use Rattle.tabbed_text.specs.Numbers.{is-digit, all-digits, numeral, value-from, value, number-in}
+use Rattle.tabbed_text.specs.Numbers.{is-digit, all-digits, numeral, value-from, value, at-least, number-in}
+
+and-true : (t : Bool) → (t && true) ≡ t
+and-true true = refl
+and-true false = refl
 
 -- more digits never write less
 pub value-ge : (n : ℕ) (bs : List ℕ) → n ≤ value-from n bs
@@ -40,14 +44,13 @@ module _ (low high : ℕ) where
   pub none-high : (bs : List ℕ) → high < value bs → None ≡ number-in low high bs
   none-high bs h = none bs (and-right _ _ (lt-leb (value bs) high h))
 
-  pub none-low : (bs : List ℕ) → value bs < low → None ≡ number-in low high bs
-  none-low bs h = none bs (and-left _ _ (and-right (numeral bs) _ (lt-leb low (value bs) h)))
-
-  pub some-number : (n : ℕ) (bs : List ℕ) → all-digits bs ≡ true → n ≡ value bs → low ≤ n → n ≤ high → 0 < length bs → (getD bs 0 0 ≡ 48 → length bs ≤ 1) → Some n ≡ number-in low high bs
-  some-number n [] d v lo hi long lead = let z : ⊥ = omega arith in absurd z
-  some-number n (b ∷ bs) d v lo hi long lead =
+  pub some-number : (n : ℕ) (bs : List ℕ) → all-digits bs ≡ true → n ≡ value bs → n ≤ high → 0 < length bs → (getD bs 0 0 ≡ 48 → length bs ≤ 1) → at-least low (Some n) ≡ number-in low high bs
+  some-number n [] d v hi long lead = let z : ⊥ = omega arith in absurd z
+  some-number n (b ∷ bs) d v hi long lead =
       let lead-ok : (not (eqb b 48) || eqb (length bs) 0) ≡ true = grind (arith, tells, lead) in
-      ap Some v ∙ sym (cond-true (numeral (b ∷ bs) && leb low (value (b ∷ bs)) && leb (value (b ∷ bs)) high) (Some (value (b ∷ bs))) None (and-from _ _ (and-from _ _ (and-from _ _ d lead-ok) (le-leb low (value (b ∷ bs)) (omega (arith, v)))) (le-leb (value (b ∷ bs)) high (omega (arith, v)))))
+      let well : numeral (b ∷ bs) ≡ true = and-from _ _ d lead-ok in
+      let fits : leb n high ≡ true = le-leb n high hi in
+      rw (← v) (ap (λ t. cond t (Some n) None) (sym (ap (λ t. t && leb low n && leb n high) well ∙ ap (λ t. leb low n && t) fits ∙ and-true (leb low n))))
 
 -- one byte more
 pub digits-step : (bs : List ℕ) (i : ℕ) → i < length bs → all-digits (drop i bs) ≡ (is-digit (getD bs i 0) && all-digits (drop (i + 1) bs))

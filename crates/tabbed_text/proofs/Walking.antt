@@ -10,7 +10,7 @@ use Rattle.std.specs.shelf.Lists.{All}
 use Rattle.std.proofs.shelf.Lists.{drop-drop, at-drop-more, at-drop-all, take-append-drop, drop-more}
 use Rattle.std.proofs.shelf.Tests.{cond-both, cond-true, cond-false, eq-eqb, ne-eqb, eqb-true, or-from}
 use Rattle.std.proofs.shelf.Ways.{tells}
-use Rattle.tabbed_text.specs.Fields.{up-to, after, prepend, pieces, ended, fields-of, lines-of, parts, parted, field-len, more-fields, Field-of, No-field, Next-field}
+use Rattle.tabbed_text.specs.Fields.{up-to, after, prepend, pieces, ended, fields-of, lines-of, parts, parted, field-len, more-fields, Field-of, Tab-first, Ends-field}
 
 -- ---- how long a field is
 
@@ -81,7 +81,7 @@ after-more [] = refl
 after-more (b ∷ bs) = after-cons b bs (eqb b 9) (eqb b 10) refl refl (after-more bs)
 
 field-cons : (b : ℕ) (bs : List ℕ) (p : Bool) → parts b ≡ p → Field-of bs (take (field-len bs) bs) (drop (field-len bs) bs)
-  → Field-of (b ∷ bs) (take (field-len (b ∷ bs)) (b ∷ bs)) (drop (field-len (b ∷ bs)) (b ∷ bs))
+    → Field-of (b ∷ bs) (take (field-len (b ∷ bs)) (b ∷ bs)) (drop (field-len (b ∷ bs)) (b ∷ bs))
 field-cons b bs true e h = simp e (record { whole = refl; unparted = tt; parted-after = e })
 field-cons b bs false e h = simp e (record { whole = ap (λ xs. b ∷ xs) (h .whole); unparted = (e, h .unparted); parted-after = h .parted-after })
 
@@ -93,18 +93,23 @@ module _ (bs : List ℕ) (at end : ℕ) (is : end ≡ at + field-len (drop at bs
   end-is : drop (field-len (drop at bs)) (drop at bs) ≡ drop end bs
   end-is = drop-drop (field-len (drop at bs)) at bs ∙ ap (λ k. drop k bs) (sym is)
 
-  pub walk-first : fields-of (drop at bs) ≡ take (end - at) (drop at bs) ∷ more-fields (drop end bs)
+  walk-first : fields-of (drop at bs) ≡ take (end - at) (drop at bs) ∷ more-fields (drop end bs)
   walk-first =
       let s : field-len (drop at bs) ≡ end - at = omega arith in
       first-more (drop at bs) ∙ ap (λ n. take n (drop at bs) ∷ more-fields (drop (field-len (drop at bs)) (drop at bs))) s ∙ ap (λ r. take (end - at) (drop at bs) ∷ more-fields r) end-is
 
-  pub walk-field : Field-of (drop at bs) (take (end - at) (drop at bs)) (drop end bs)
+  walk-field : Field-of (drop at bs) (take (end - at) (drop at bs)) (drop end bs)
   walk-field =
       let s : field-len (drop at bs) ≡ end - at = omega arith in
       rw (← end-is, ← s) (field-here (drop at bs))
 
-  pub walk-rest : after 10 (drop end bs) ≡ after 10 (drop at bs)
+  walk-rest : after 10 (drop end bs) ≡ after 10 (drop at bs)
   walk-rest = ap (after 10) (sym end-is) ∙ after-more (drop at bs)
+
+  pub ends-field : at ≤ end → end ≤ length bs → Ends-field bs at end
+  ends-field lo hi = record { not-before = lo; within = hi; field = walk-field; leads = walk-first; next-line = walk-rest }
+
+-- ---- whether a field follows
 
 pub none-past : (bs : List ℕ) (at : ℕ) → length bs ≤ at → more-fields (drop at bs) ≡ []
 none-past bs at h = at-drop-all more-fields bs at h
@@ -112,13 +117,10 @@ none-past bs at h = at-drop-all more-fields bs at h
 pub none-here : (bs : List ℕ) (at : ℕ) → at < length bs → (getD bs at 0 ≡ 9 → ⊥) → more-fields (drop at bs) ≡ []
 none-here bs at h ne = at-drop-more more-fields bs at 0 h ∙ cond-false (eqb (getD bs at 0) 9) (fields-of (drop (at + 1) bs)) [] (ne-eqb _ 9 ne)
 
-pub tab-here : (bs : List ℕ) (at : ℕ) → at < length bs → getD bs at 0 ≡ 9 → (more-fields (drop at bs) ≡ fields-of (drop (at + 1) bs)) × (after 10 (drop (at + 1) bs) ≡ after 10 (drop at bs))
+pub tab-here : (bs : List ℕ) (at : ℕ) → at < length bs → getD bs at 0 ≡ 9 → Tab-first (drop at bs) (drop (at + 1) bs)
 tab-here bs at h e =
-    (at-drop-more more-fields bs at 0 h ∙ cond-true (eqb (getD bs at 0) 9) (fields-of (drop (at + 1) bs)) [] (eq-eqb _ 9 e),
-     sym (at-drop-more (after 10) bs at 0 h ∙ cond-false (eqb (getD bs at 0) 10) (drop (at + 1) bs) (after 10 (drop (at + 1) bs)) (ne-eqb _ 10 (λ q. omega arith))))
-
--- a tab stands here, and the field after it is f
-pub next-here : (bs : List ℕ) (at : ℕ) (f ys : List ℕ) → at < length bs → getD bs at 0 ≡ 9 → Field-of (drop (at + 1) bs) f ys
-  → fields-of (drop (at + 1) bs) ≡ f ∷ more-fields ys → Next-field (drop at bs) f ys
-next-here bs at f ys h e is leads =
-    record { field = (drop (at + 1) bs, drop-more bs at 0 h ∙ ap (λ b. b ∷ drop (at + 1) bs) e, is); leads = tab-here bs at h e .0 ∙ leads }
+    record {
+      tab = drop-more bs at 0 h ∙ ap (λ b. b ∷ drop (at + 1) bs) e;
+      fields = at-drop-more more-fields bs at 0 h ∙ cond-true (eqb (getD bs at 0) 9) (fields-of (drop (at + 1) bs)) [] (eq-eqb _ 9 e);
+      next-line = sym (at-drop-more (after 10) bs at 0 h ∙ cond-false (eqb (getD bs at 0) 10) (drop (at + 1) bs) (after 10 (drop (at + 1) bs)) (ne-eqb _ 10 (λ q. omega arith)));
+    }

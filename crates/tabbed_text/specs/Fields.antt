@@ -3,8 +3,9 @@
 use mathlib.Core.Path.{_≡_}
 use mathlib.Core.Bool.{Bool, true, false, cond, _||_}
 use mathlib.Core.List.{List, [], _∷_, _++_, map}
-use Prim.Native.Nat.{ℕ, suc}
+use Prim.Native.Nat.{ℕ, suc, _-_, _≤_}
 use lib.Dec.{eqb}
+use lib.ListN.{length, take, drop}
 use Rattle.std.specs.shelf.Lists.{All, joined}
 
 -- what stands before the first s
@@ -77,5 +78,21 @@ pub record No-field (xs ys : List ℕ) : Type 0 where
 
 -- a tab, then the field f, and ys is all that follows it
 pub record Next-field (xs f ys : List ℕ) : Type 0 where
-  pub field : (zs : List ℕ) × (xs ≡ 9 ∷ zs) × Field-of zs f ys
+  pub whole : xs ≡ 9 ∷ (f ++ ys)
+  pub unparted : All (λ b. parts b ≡ false) f
+  pub parted-after : parted ys ≡ true
   pub leads : more-fields xs ≡ f ∷ more-fields ys
+
+-- a tab stands first in xs, and ys is all that follows it
+pub record Tab-first (xs ys : List ℕ) : Type 0 where
+  pub tab : xs ≡ 9 ∷ ys
+  pub fields : more-fields xs ≡ fields-of ys
+  pub next-line : after 10 ys ≡ after 10 xs
+
+-- the field that starts at a place of the text ends at another
+pub record Ends-field (bs : List ℕ) (at end : ℕ) : Type 0 where
+  pub not-before : at ≤ end
+  pub within : end ≤ length bs
+  pub field : Field-of (drop at bs) (take (end - at) (drop at bs)) (drop end bs)
+  pub leads : fields-of (drop at bs) ≡ take (end - at) (drop at bs) ∷ more-fields (drop end bs)
+  pub next-line : after 10 (drop end bs) ≡ after 10 (drop at bs)

@@ -29,3 +29,8 @@ value bs = value-from 0 bs
 -- the number that the bytes write, where they write one from low to high
 abbrev pub number-in : ℕ → ℕ → List ℕ → Option ℕ
 number-in low high bs = cond (numeral bs && leb low (value bs) && leb (value bs) high) (Some (value bs)) None
+
+-- the number, where it is not below low
+abbrev pub at-least : ℕ → Option ℕ → Option ℕ
+at-least low None = None
+at-least low (Some n) = cond (leb low n) (Some n) None

@@ -1,5 +1,5 @@
 // Text of tab-parted fields: reading fields and numbers, and writing them.
 pub mod fields;
 pub mod numbers;
-pub mod writer;
 pub mod whole;
+pub mod writer;

@@ -1,6 +1,7 @@
 // Decimal numbers in the bytes of a field.
 ghost use mathlib.Core.Path.{_≡_};
-ghost use Rattle.tabbed_text.specs.Numbers.{is-digit, number-in};
+ghost use Prim.Native.Nat.{ℕ};
+ghost use Rattle.tabbed_text.specs.Numbers.{is-digit, at-least, number-in};
 
 fn is_digit(b: u8) -> bool
     ensures { λ r. ⌜ r ≡ is-digit b ⌝ }
@@ -8,9 +9,9 @@ fn is_digit(b: u8) -> bool
     b >= b'0' && b <= b'9'
 }
 
-// The number, where it is well formed and from `low` to `high`; however long the field is, nothing wraps.
-pub fn number(bytes: &[u8], low: u32, high: u32) -> Option<u32>
-    ensures reads_number { λ r. ⌜ r ≡ number-in low high (now (bytes .entry)) ⌝ }
+// The number, where it is well formed and at most `high`; however long the field is, nothing wraps.
+fn number_to(bytes: &[u8], high: u32) -> Option<u32>
+    ensures { λ r. ⌜ ((low : ℕ) → at-least low r ≡ number-in low high (now (bytes .entry))) ⌝ }
 {
     if bytes.is_empty() {
         return None;
@@ -28,5 +29,13 @@ pub fn number(bytes: &[u8], low: u32, high: u32) -> Option<u32>
             return None;
         }
     }
-    if n < low as u64 { None } else { Some(n as u32) }
+    Some(n as u32)
+}
+
+// The number, where it is well formed and from `low` to `high`.
+pub fn number(bytes: &[u8], low: u32, high: u32) -> Option<u32>
+    ensures reads_number { λ r. ⌜ r ≡ number-in low high (now (bytes .entry)) ⌝ }
+{
+    let n = number_to(bytes, high)?;
+    if n < low { None } else { Some(n) }
 }

@@ -23,9 +23,19 @@ impl Draft {
     pub fn new() -> Self
         ensures { λ r. ⌜ above r ≡ [] ⌝ }
     {
-        let line = Line::Gate(Gate { children: 0, need: 1 });
-        let name = Name { head: 65, tail: 0, len: 1 };
-        Draft { rows: [Row { line, name }; 64], count: 0 }
+        let line = Line::Gate(Gate {
+            children: 0,
+            need: 1,
+        });
+        let name = Name {
+            head: 65,
+            tail: 0,
+            len: 1,
+        };
+        Draft {
+            rows: [Row { line, name }; 64],
+            count: 0,
+        }
     }
 
     // How many lines are read.

@@ -1,11 +1,12 @@
 // The steps of the walk.
 ghost use mathlib.Core.Path.{_≡_};
+ghost use mathlib.Core.Bool.{true, false};
 ghost use mathlib.Core.List.{_∷_, []};
-ghost use Prim.Native.Nat.{_+_, _≤_};
+ghost use Prim.Native.Nat.{_+_, _<_, _≤_};
 ghost use lib.Dec.{eqb};
 ghost use lib.ListN.{length, drop};
 ghost use Rattle.std.specs.Options.{Cases};
-ghost use Rattle.tabbed_text.specs.Fields.{parts, field-len, fields-of, more-fields, after, Field-of, No-field, Next-field};
+ghost use Rattle.tabbed_text.specs.Fields.{parts, fields-of, more-fields, after, Field-of, No-field, Next-field, Tab-first, Ends-field};
 ghost use Rattle.tabbed_text.specs.Remains.{remains};
 use crate::fields::Fields;
 
@@ -18,8 +19,7 @@ fn is_parting(b: u8) -> bool
 // Where the field that starts at `at` ends.
 fn field_end(bytes: &[u8], at: usize) -> usize
     requires { ⌜ at ≤ length (now bytes) ⌝ }
-    ensures within { λ r. ⌜ r ≤ length (now (bytes .entry)) ⌝ }
-    ensures value { λ r. ⌜ r ≡ at + field-len (drop at (now (bytes .entry))) ⌝ }
+    ensures { λ r. ⌜ Ends-field (now (bytes .entry)) at r ⌝ }
 {
     for i in at..bytes.len() {
         if is_parting(bytes[i]) {
@@ -27,6 +27,21 @@ fn field_end(bytes: &[u8], at: usize) -> usize
         }
     }
     bytes.len()
+}
+
+// Whether a tab stands at `at`.
+fn is_tab(bytes: &[u8], at: usize) -> bool
+    ensures yes { λ r. ⌜ (r ≡ true → (at < length (now (bytes .entry))) × Tab-first (drop at (now (bytes .entry))) (drop (at + 1) (now (bytes .entry)))) ⌝ }
+    ensures no { λ r. ⌜ (r ≡ false → more-fields (drop at (now (bytes .entry))) ≡ []) ⌝ }
+{
+    at < bytes.len() && bytes[at] == b'\t'
+}
+
+// Whether nothing stands at `at` and after it.
+fn is_end(bytes: &[u8], at: usize) -> bool
+    ensures { λ r. ⌜ r ≡ eqb (length (drop at (now (bytes .entry)))) 0 ⌝ }
+{
+    at >= bytes.len()
 }
 
 // Where the line after that of `at` starts.
@@ -87,10 +102,7 @@ impl<'a> Fields<'a> {
         ensures leaves_the_others { λ _. ⌜ more-fields (remains (now (self .exit))) ≡ drop 1 (more-fields (remains (now (self .entry)))) ⌝ }
         ensures keeps_next_line { λ _. ⌜ after 10 (remains (now (self .exit))) ≡ after 10 (remains (now (self .entry))) ⌝ }
     {
-        if self.at >= self.bytes.len() {
-            return None;
-        }
-        if self.bytes[self.at] != b'\t' {
+        if !is_tab(self.bytes, self.at) {
             return None;
         }
         self.at += 1;
@@ -101,10 +113,7 @@ impl<'a> Fields<'a> {
     pub fn left(&self) -> usize
         ensures counts_fields { λ r. ⌜ r ≡ length (more-fields (remains (now (self .entry)))) ⌝ }
     {
-        if self.at >= self.bytes.len() {
-            return 0;
-        }
-        if self.bytes[self.at] != b'\t' {
+        if !is_tab(self.bytes, self.at) {
             return 0;
         }
         fields_from(self.bytes, self.at + 1)
@@ -121,14 +130,14 @@ impl<'a> Fields<'a> {
     pub fn rest(&self) -> &'a [u8]
         ensures is_all_left { λ r. ⌜ now r ≡ remains (now (self .entry)) ⌝ }
     {
-        let bytes = self.bytes;
-        &bytes[self.at..]
+        let (_, rest) = self.bytes.split_at(self.at);
+        rest
     }
 
     // Whether nothing is left to read.
     pub fn is_done(&self) -> bool
         ensures tells_end { λ r. ⌜ r ≡ eqb (length (remains (now (self .entry)))) 0 ⌝ }
     {
-        self.at >= self.bytes.len()
+        is_end(self.bytes, self.at)
     }
 }

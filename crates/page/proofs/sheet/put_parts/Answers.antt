@@ -29,14 +29,16 @@ loop-i-again c =
     let h : i < length rows = omega (arith, c .loop-i-test .taken, c .count-i-end .ensures .counts-lines) in
     let short : length (now (c .args .w .now .out)) < 2 ^ 64 = search needs in
     elim (c .match-charged-at .came) [
-      in-Some w ↦
-        (subst (λ t. Writes t (c .args .w .now) (c .match-charged-at .w)) (text-more y g rows i _ h (w .in-Some .ensures tt .value)) (rw (w .w-is) (writes-then short (inv .0) (w .put-charge .ensures))),
-         w .total-is ∙ ap (λ n. n + w .in-Some .charged .cents) (inv .1) ∙ total-more y g rows i _ h (w .in-Some .ensures tt .value),
-         omega (arith, w .total-is, inv .2, w .in-Some .ensures tt .low))
-    | in-rest w ↦
-        (subst (λ t. Writes t (c .args .w .now) (c .match-charged-at .w)) (sym (append-nil _) ∙ text-more y g rows i _ h (w .in-rest .ensures tt .value)) (rw (w .w-is) (inv .0)),
-         w .total-is ∙ inv .1 ∙ sym (add-zero _) ∙ total-more y g rows i _ h (w .in-rest .ensures tt .value),
-         omega (arith, w .total-is, inv .2))
+      | in-Some w ↦ (
+        subst (λ t. Writes t (c .args .w .now) (c .match-charged-at .w)) (text-more y g rows i _ h (w .in-Some .ensures tt .value)) (rw (w .w-is) (writes-then short (inv .0) (w .put-charge .ensures))),
+        w .total-is ∙ ap (λ n. n + w .in-Some .charged .cents) (inv .1) ∙ total-more y g rows i _ h (w .in-Some .ensures tt .value),
+        omega (arith, w .total-is, inv .2, w .in-Some .ensures tt .low),
+      )
+      | in-rest w ↦ (
+        subst (λ t. Writes t (c .args .w .now) (c .match-charged-at .w)) (sym (append-nil _) ∙ text-more y g rows i _ h (w .in-rest .ensures tt .value)) (rw (w .w-is) (inv .0)),
+        w .total-is ∙ inv .1 ∙ sym (add-zero _) ∙ total-more y g rows i _ h (w .in-rest .ensures tt .value),
+        omega (arith, w .total-is, inv .2),
+      )
     ]
 
 pub returns : need.returns

@@ -10,7 +10,7 @@ use Rattle.station_file.proofs.gates.children.Given as given
 abbrev pub Inv-loop-f : given.InvT-loop-f
 Inv-loop-f l =
     (children (l .line) (l .field) (above (l .draft)) (l .set) (more-fields (remains (l .walk)))
-      ≡ children (l .line) (l .first) (above (l .draft)) 0 (more-fields (remains (l .entry .walk))))
+    ≡ children (l .line) (l .first) (above (l .draft)) 0 (more-fields (remains (l .entry .walk))))
     × (after 10 (remains (l .walk)) ≡ after 10 (remains (l .entry .walk)))
     × (l .field + length (more-fields (remains (l .walk))) ≤ 20)
 

@@ -2,9 +2,9 @@ use mathlib.Core.Path.{_≡_, sym, ap, _∙_}
 use mathlib.Core.Bool.{cond}
 use Prim.Native.Nat.{_+_, suc}
 use native.Mathlib.Omega.{arith}
-use lib.ListN.{drop}
+use lib.ListN.{drop, length}
 use Rattle.tabbed_text.specs.Fields.{field-len}
-use Rattle.tabbed_text.proofs.Walking.{len-step, len-end}
+use Rattle.tabbed_text.proofs.Walking.{len-step, len-end, ends-field}
 use Rattle.tabbed_text.proofs.fields.walk.field_end.Needs as need
 
 pub returns-then-is-parting : need.returns-then-is-parting
@@ -12,7 +12,7 @@ returns-then-is-parting c =
     let bs = c .args .bytes .now in
     let i = c .loop-i .i in
     let none = len-step bs i (c .loop-i-test .taken) ∙ ap (λ b. cond b 0 (suc (field-len (drop (i + 1) bs)))) (sym (c .if-is-parting .ensures tt)) in
-    record { within = omega arith; value = omega (arith, none, c .loop-i .inv) }
+    ends-field bs (c .args .at) i (omega (arith, none, c .loop-i .inv)) (omega arith) (omega arith)
 
 pub loop-i-again : need.loop-i-again
 loop-i-again c =
@@ -23,5 +23,6 @@ loop-i-again c =
 
 pub returns : need.returns
 returns c =
-    let none = len-end (c .args .bytes .now) (c .loop-i .i) (c .loop-i-test .left) in
-    record { within = omega arith; value = omega (arith, none, c .loop-i .inv, c .loop-i .kept .i-end (c .pre)) }
+    let bs = c .args .bytes .now in
+    let none = len-end bs (c .loop-i .i) (c .loop-i-test .left) in
+    ends-field bs (c .args .at) (length bs) (omega (arith, none, c .loop-i .inv, c .loop-i .kept .i-end (c .pre))) (c .pre) (omega arith)
