@@ -1,2 +1,4 @@
 pub mod Sets
 pub mod Spelling
+pub mod Told
+pub mod Holding

@@ -2,3 +2,4 @@ pub mod Sets
 pub mod Names
 pub mod Lines
 pub mod Rules
+pub mod Holding
