@@ -3,3 +3,4 @@ pub mod Ordering
 pub mod Exactness
 pub mod Texts
 pub mod Sheets
+pub mod Replies

@@ -2,14 +2,12 @@
 // its answer. In both, `>` stands for a tab, `/` for byte 10, `^` for byte 13, `~` for byte 200 and `@` for byte 0. A
 // line `#N` stands for a right order line and N letters, and `!N` in front of an input hands over only N page bytes,
 // which are shown whole, with `.` for those that stay.
-use page::faults::PageFault;
-use page::refused::write_refused;
-use page::sheet::charge_sheet;
+use page::answer::INPUT_BYTES;
+use page::answer::PAGE_BYTES;
+use page::answer::answer;
 use std::alloc::AllocError;
 use std::alloc::Global;
 use std::error::AnyError;
-
-const PAGE_BYTES: usize = 57_344;
 
 fn decoded_byte(b: u8) -> u8 {
     match b {
@@ -55,21 +53,11 @@ fn letters(heap: Global, count: usize) -> Result<Vec<u8>, AllocError> {
     Ok(input)
 }
 
-fn refused(fault: PageFault, page: &mut [u8]) -> usize {
-    match write_refused(fault, page) {
-        Ok(len) => len,
-        Err(_) => 0,
-    }
-}
-
-// What is answered to the input where many page bytes are handed over.
-fn answer(heap: Global, input: &[u8]) -> Result<String, AllocError> {
+// What is written for the input where the program's own page bytes are handed over.
+fn answered(heap: Global, input: &[u8]) -> Result<String, AllocError> {
     let mut page = vec![in heap; b'.'; PAGE_BYTES]?;
-    let len = match charge_sheet(input, page.as_mut_slice()) {
-        Ok(len) => len,
-        Err(fault) => refused(fault, page.as_mut_slice()),
-    };
-    let end = len.min(page.len());
+    let written = answer(input, page.as_mut_slice());
+    let end = written.len.min(page.len());
     shown(heap, &page[0..end])
 }
 
@@ -77,24 +65,20 @@ fn number(digits: &str) -> Result<usize, AnyError> {
     Ok(digits.parse::<usize>()?)
 }
 
-// The page bytes after the input, where only some are handed over, and the line of the refusal.
+// All the page bytes after the input, where only some are handed over, and how many were written.
 fn cramped(heap: Global, input: &[u8], bytes: usize) -> Result<String, AllocError> {
     let mut page = vec![in heap; b'.'; bytes]?;
-    let mut line = vec![in heap; b'.'; 100]?;
-    let len = match charge_sheet(input, page.as_mut_slice()) {
-        Ok(_) => 0,
-        Err(fault) => refused(fault, line.as_mut_slice()),
-    };
-    let end = len.min(line.len());
-    let why = shown(heap, &line[0..end])?;
+    let written = answer(input, page.as_mut_slice());
+    let len = written.len;
     let left = shown(heap, page.as_slice())?;
-    format!(heap, "{why} [{left}]")
+    let state = if written.refused { "refused" } else { "written" };
+    format!(heap, "{state} {len} [{left}]")
 }
 
 fn case(heap: Global, text: &str) -> Result<String, AnyError> {
     if let Some(digits) = text.strip_prefix("#") {
         let input = letters(heap, number(digits)?)?;
-        return Ok(answer(heap, input.as_slice())?);
+        return Ok(answered(heap, input.as_slice())?);
     }
     if let Some(rest) = text.strip_prefix("!") {
         if let Some((digits, encoded)) = rest.split_once(" ") {
@@ -103,14 +87,15 @@ fn case(heap: Global, text: &str) -> Result<String, AnyError> {
         }
     }
     let input = decoded(heap, text.as_bytes())?;
-    Ok(answer(heap, input.as_slice())?)
+    Ok(answered(heap, input.as_slice())?)
 }
 
 fn main(rt: LibcRuntime) -> Result<(), AnyError> {
+    println!(rt, "input bytes {INPUT_BYTES}, page bytes {PAGE_BYTES}")?;
     for line in rt.lines(rt.alloc()) {
         let text = line?;
-        let answer = case(rt.alloc(), text.as_str())?;
-        println!(rt, "{text} => {answer}")?;
+        let written = case(rt.alloc(), text.as_str())?;
+        println!(rt, "{text} => {written}")?;
     }
     Ok(())
 }

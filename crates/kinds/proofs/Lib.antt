@@ -1,0 +1,4 @@
+pub mod LanternLimits
+pub mod Runs
+pub mod LanternRows
+pub mod LanternLaws

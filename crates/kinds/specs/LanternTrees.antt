@@ -1,0 +1,34 @@
+-- What a lantern means, what `Lantern::new` answers, and the number of its refusal.
+use mathlib.Core.Bool.{Bool, cond}
+use mathlib.Core.List.{List}
+use Prim.Native.Nat.{ℕ}
+use lib.Dec.{leb}
+use Rattle.std.specs.declared.result.Result.{Result}
+use Rattle.std.specs.declared.result.Result.the-variants.{Ok, Err}
+use Rattle.tree.specs.declared.line.Part.{Part}
+use Rattle.tree.specs.declared.line.Row.{Row}
+use Rattle.kinds.specs.Lanterns.{in-limits, lantern-rows, dark-tiers}
+use Rattle.kinds.specs.declared.lantern.Lantern.{Lantern}
+use Rattle.kinds.specs.declared.lantern.LanternCause.{LanternCause}
+use Rattle.kinds.specs.declared.lantern.LanternCause.the-variants.{OutOfLimits}
+
+abbrev pub rows-of : Lantern → List Row
+rows-of l = lantern-rows (l .tiers) (l .lamps) (l .«lamp_need») (l .«tier_need») (l .part)
+
+-- whether at least `tier_need` tiers have at least `lamp_need` of their lamps among the failed parts s
+abbrev pub dark : Lantern → ℕ → Bool
+dark l s = leb (l .«tier_need») (dark-tiers (l .tiers) (l .lamps) (l .«lamp_need») s)
+
+abbrev pub values-of : Lantern → ℕ × ℕ × ℕ × ℕ × Part
+values-of l = (l .tiers, l .lamps, l .«lamp_need», l .«tier_need», l .part)
+
+-- the lantern of these values, where it keeps the limits
+abbrev pub asked-lantern : (t p q r : ℕ) → Part → Result (ℕ × ℕ × ℕ × ℕ × Part) LanternCause
+asked-lantern t p q r part = cond (in-limits t p q r part) (Ok (t, p, q, r, part)) (Err OutOfLimits)
+
+abbrev pub lantern-number : LanternCause → ℕ
+lantern-number OutOfLimits = 16
+
+-- T, the letter of the layer
+abbrev pub lantern-layer : LanternCause → ℕ
+lantern-layer OutOfLimits = 84

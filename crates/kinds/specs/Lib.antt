@@ -1,0 +1,2 @@
+pub mod Lanterns
+pub mod LanternTrees

@@ -1,0 +1,2 @@
+// Other kinds of station trees.
+pub mod lantern;
