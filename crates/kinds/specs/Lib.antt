@@ -1,2 +1,3 @@
 pub mod Lanterns
 pub mod LanternTrees
+pub mod Fixings

@@ -1,2 +1,3 @@
-// Other kinds of station trees.
+// Kinds of station tree besides the one that is read from a file.
+pub mod fixing;
 pub mod lantern;

@@ -1,1 +1,4 @@
 pub mod Cents
+pub mod Models
+pub mod Weights
+pub mod SetOrders

@@ -1,2 +1,5 @@
 pub mod Terms
 pub mod Charges
+pub mod Models
+pub mod Weights
+pub mod SetOrder

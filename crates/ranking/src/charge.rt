@@ -47,7 +47,7 @@ fn in_year(part: Part, year: u32, growth: u32) -> u64
     }
 }
 
-// The same, with what it means.
+// The same, with the laws of the charge; the call below stays free of a proof of its own.
 fn priced(part: Part, year: u32, growth: u32) -> u64
     requires few_years { ⌜ year ≤ 10 ⌝ }
     requires low_growth { ⌜ growth ≤ 200 ⌝ }
@@ -63,7 +63,7 @@ fn priced(part: Part, year: u32, growth: u32) -> u64
 pub fn charge(part: Part, terms: Terms) -> u64
     ensures is_charge { λ r. ⌜ r ≡ charge (terms .year) (terms .growth) part ⌝ }
     ensures in_whole_cents { λ r. ⌜ In-whole-cents (terms .year) (terms .growth) part r ⌝ }
-    ensures has_room { λ r. ⌜ r < 2 ^ 42 ⌝ }
+    ensures leaves_room_for_sums { λ r. ⌜ r < 2 ^ 42 ⌝ }
     ensures answers_worked_cases { λ _. ⌜ Worked-out worked ⌝ }
 {
     priced(part, terms.year(), terms.growth())

@@ -2,7 +2,7 @@
 ghost use mathlib.Core.Path.{_≡_};
 ghost use Prim.Native.Nat.{_≤_};
 ghost use Rattle.std.specs.Results.{mapped};
-ghost use Rattle.ranking.specs.Terms.{asked};
+ghost use Rattle.ranking.specs.Terms.{asked, terms-number};
 
 // The year, counted from the year of the list price, and the growth of prices per mille a year.
 #[derive(Clone, Copy)]
@@ -23,7 +23,7 @@ pub enum TermsCause {
 impl Terms {
     // Asks first whether the year is at most 10, then whether the growth is at most 200.
     pub fn new(year: u32, growth: u32) -> Result<Terms, TermsCause>
-        ensures asks_year_then_growth { λ r. ⌜ mapped (λ t. (t .year, t .growth)) (λ e. e) r ≡ asked year growth ⌝ }
+        ensures asks_year_then_growth { λ r. ⌜ mapped (λ t. (t .year, t .growth)) terms-number r ≡ asked year growth ⌝ }
     {
         if year > 10 {
             return Err(TermsCause::Year);

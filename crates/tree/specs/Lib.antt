@@ -1,4 +1,5 @@
 pub mod Sets
+pub mod Orders
 pub mod Names
 pub mod Lines
 pub mod Rules
