@@ -22,13 +22,14 @@ dark l s = leb (l .«tier_need») (dark-tiers (l .tiers) (l .lamps) (l .«lamp_n
 abbrev pub values-of : Lantern → ℕ × ℕ × ℕ × ℕ × Part
 values-of l = (l .tiers, l .lamps, l .«lamp_need», l .«tier_need», l .part)
 
--- the lantern of these values, where it keeps the limits
-abbrev pub asked-lantern : (t p q r : ℕ) → Part → Result (ℕ × ℕ × ℕ × ℕ × Part) LanternCause
-asked-lantern t p q r part = cond (in-limits t p q r part) (Ok (t, p, q, r, part)) (Err OutOfLimits)
-
+-- the number of a refusal
 abbrev pub lantern-number : LanternCause → ℕ
 lantern-number OutOfLimits = 16
 
 -- T, the letter of the layer
-abbrev pub lantern-layer : LanternCause → ℕ
-lantern-layer OutOfLimits = 84
+abbrev pub lantern-layer : ℕ
+lantern-layer = 84
+
+-- the values of the lantern, where they keep the limits, or the number of the refusal
+abbrev pub asked-lantern : (t p q r : ℕ) → Part → Result (ℕ × ℕ × ℕ × ℕ × Part) ℕ
+asked-lantern t p q r part = cond (in-limits t p q r part) (Ok (t, p, q, r, part)) (Err 16)

@@ -3,10 +3,11 @@ ghost use mathlib.Core.Path.{_≡_};
 ghost use mathlib.Core.Bool.{true};
 ghost use Prim.Native.Nat.{ℕ};
 ghost use lib.ListN.{length};
+ghost use Rattle.std.specs.Results.{Cases};
 ghost use Rattle.std.specs.declared.result.Result.the-variants.{Ok};
 ghost use Rattle.tree.specs.Lines.{line-at, name-at};
 ghost use Rattle.tree.specs.Holding.{holding};
-ghost use Rattle.kinds.specs.Fixings.{fixed-over, overlaid-line, is-part, fixed-rows, fix-answer, in-state};
+ghost use Rattle.kinds.specs.Fixings.{fixed-over, overlaid-line, is-part, fixed-rows, fix-answer, fixing-number, in-state};
 ghost use Rattle.kinds.specs.declared.fixing.State.the-variants as fixed;
 use tree::line::Gate;
 use tree::line::Line;
@@ -66,6 +67,7 @@ impl<T: Tree> Fixing<T> {
     // it, if as sound.
     pub fn fix(&mut self, line: usize, state: State) -> Result<(), FixingCause>
         ensures refuses_all_but_parts { λ r. ⌜ r ≡ fix-answer (fixed-over (T·Tree .meaning) (now (self .entry))) line ⌝ }
+        ensures refuses_by_number { λ r. ⌜ Cases r (λ _. Unit {0}) (λ e. fixing-number e ≡ 14) ⌝ }
         ensures fixes_that_part { λ _. ⌜ fixed-over (T·Tree .meaning) (now (self .exit)) ≡ fixed-rows (fixed-over (T·Tree .meaning) (now (self .entry))) line state ⌝ }
         ensures changes_holding { λ r. ⌜ (r ≡ Ok tt → (s : ℕ) → holding (fixed-over (T·Tree .meaning) (now (self .exit))) s ≡ holding (fixed-over (T·Tree .meaning) (now (self .entry))) (in-state state line s)) ⌝ }
     {

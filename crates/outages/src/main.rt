@@ -14,5 +14,9 @@ fn main(rt: LibcRuntime) -> Result<(), AnyError> {
     let written = answer(input.as_slice(), page.as_mut_slice());
     let end = written.len.min(page.len());
     rt.stdout().write_all(&page[0..end])?;
-    if written.refused { Err("refused".into()) } else { Ok(()) }
+    if written.refused {
+        Err("refused".into())
+    } else {
+        Ok(())
+    }
 }

@@ -20,7 +20,7 @@ abbrev Told : Result ℕ PageFault → Result (List ℕ) PageFault → List ℕ 
 Told r s out after = Cases r (λ n. Sent n (reply s out) out after) (λ f. Kept f (reply s out) out after)
 
 fitting : (text out : List ℕ) (b : Bool) → leb (length text) (length out) ≡ b
-  → Told (okOr (cond b (Some (length text)) None) (page-fault 0 0 NoRoom)) (Ok text) out (cond b (text ++ drop (length text) out) out)
+    → Told (okOr (cond b (Some (length text)) None) (page-fault 0 0 NoRoom)) (Ok text) out (cond b (text ++ drop (length text) out) out)
 fitting text out true e = record { told = simp e; bytes = simp e }
 fitting text out false e = record { why = simp e; bytes = refl }
 

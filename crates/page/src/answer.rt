@@ -10,6 +10,7 @@ use crate::sheet::charge_sheet;
 
 // The bytes that the program takes in, and those that it hands over for the page.
 pub const INPUT_BYTES: usize = 20_000;
+
 pub const PAGE_BYTES: usize = 57_344;
 
 // How many bytes were written, and whether they refuse the input.
@@ -25,7 +26,10 @@ fn refuse(fault: PageFault, out: &mut [u8]) -> Written
 {
     match write_refused(fault, out) {
         Ok(len) => Written { len, refused: true },
-        Err(_) => Written { len: 0, refused: true },
+        Err(_) => Written {
+            len: 0,
+            refused: true,
+        },
     }
 }
 
@@ -42,7 +46,10 @@ pub fn answer(input: &[u8], out: &mut [u8]) -> Written
     ensures writes_answer { λ _. ⌜ now (out .exit) ≡ replied (reply (sheet-of (now (input .entry))) (now (out .entry))) (now (out .entry)) ⌝ }
 {
     match attempt(input, out) {
-        Ok(len) => Written { len, refused: false },
+        Ok(len) => Written {
+            len,
+            refused: false,
+        },
         Err(fault) => refuse(fault, out),
     }
 }

@@ -28,6 +28,6 @@ set-at-most m charge-of rows = lex (by (weigh m charge-of rows) (m .le)) size-th
 -- and that is a total order: any two sets compare, and only a set itself is both before and after it
 pub record Orders-sets {W : Type 0} (m : Model W) (a b : Weighed W) (r : Bool) : Type 0 where
   pub by-weight-size-and-line : (charge-of : Part → ℕ) (rows : List Row)
-    → a .weight ≡ weigh m charge-of rows (a .set) → b .weight ≡ weigh m charge-of rows (b .set)
-    → r ≡ set-at-most m charge-of rows (a .set) (b .set)
+      → a .weight ≡ weigh m charge-of rows (a .set) → b .weight ≡ weigh m charge-of rows (b .set)
+      → r ≡ set-at-most m charge-of rows (a .set) (b .set)
   pub total : (charge-of : Part → ℕ) (rows : List Row) → Total (set-at-most m charge-of rows)

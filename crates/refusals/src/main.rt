@@ -71,7 +71,11 @@ fn cramped(heap: Global, input: &[u8], bytes: usize) -> Result<String, AllocErro
     let written = answer(input, page.as_mut_slice());
     let len = written.len;
     let left = shown(heap, page.as_slice())?;
-    let state = if written.refused { "refused" } else { "written" };
+    let state = if written.refused {
+        "refused"
+    } else {
+        "written"
+    };
     format!(heap, "{state} {len} [{left}]")
 }
 

@@ -6,7 +6,7 @@ ghost use lib.Dec.{leb};
 ghost use Rattle.std.specs.Results.{mapped};
 ghost use Rattle.tree.specs.Rules.{part-ok};
 ghost use Rattle.kinds.specs.Lanterns.{need-ok, in-limits};
-ghost use Rattle.kinds.specs.LanternTrees.{values-of, asked-lantern};
+ghost use Rattle.kinds.specs.LanternTrees.{values-of, lantern-number, asked-lantern};
 use crate::lantern::Lantern;
 use crate::lantern::LanternCause;
 use tree::line::Part;
@@ -21,7 +21,7 @@ impl Lantern {
         tier_need: u32,
         part: Part,
     ) -> Result<Lantern, LanternCause>
-        ensures made_within_limits_only { λ r. ⌜ mapped values-of (λ e. e) r ≡ asked-lantern tiers lamps «lamp_need» «tier_need» part ⌝ }
+        ensures made_within_limits_only { λ r. ⌜ mapped values-of lantern-number r ≡ asked-lantern tiers lamps «lamp_need» «tier_need» part ⌝ }
     {
         if within_limits(tiers, lamps, lamp_need, tier_need, part) {
             Ok(made(tiers, lamps, lamp_need, tier_need, part))
