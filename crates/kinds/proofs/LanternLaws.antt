@@ -1,18 +1,18 @@
 -- When the top of a lantern holds.
-use mathlib.Core.Path.{_≡_, refl, sym, ap, subst, _∙_}
+use mathlib.Core.Path.{_≡_, ap, _∙_}
 use mathlib.Core.Bool.{true}
 use mathlib.Core.List.{List}
-use Prim.Native.Nat.{ℕ, _+_, _-_, _*_, _<_, _≤_}
+use Prim.Native.Nat.{ℕ, _+_, _-_, _*_, _<_}
 use native.Mathlib.Nat.{add-sub-cancel-left}
 use native.Mathlib.Omega.{arith}
 use lib.Dec.{leb}
-use Rattle.tree.specs.Holding.{the-line, holding, holds, Holding-laws}
+use Rattle.tree.specs.Holding.{holding, holds, Holding-laws}
 use Rattle.tree.specs.Sets.{has}
 use Rattle.tree.specs.declared.line.Part.{Part}
 use Rattle.tree.specs.declared.line.Line.the-variants as line
 use Rattle.tree.specs.declared.line.Row.{Row}
 use Rattle.tree.proofs.Holding.{holding-laws}
-use Rattle.kinds.specs.Lanterns.{run, tier-line, last-line, in-limits, lantern-row, lantern-rows, how-many, dark-tier, dark-tiers}
+use Rattle.kinds.specs.Lanterns.{run, tier-line, in-limits, lantern-rows, dark-tier, dark-tiers}
 use Rattle.kinds.proofs.LanternLimits.{tier-fits}
 use Rattle.kinds.proofs.LanternRows.{lamp-row, tier-row, last-row, lantern-ruled, lantern-the-line}
 use Rattle.kinds.proofs.Runs.{same-many, run-meets}

@@ -1,7 +1,7 @@
 -- What is written for an input: its text where there is one and it has room, else the line of the refusal, and nothing
 -- where that has no room either.
 use mathlib.Core.Path.{_≡_}
-use mathlib.Core.Bool.{Bool, true, false, cond}
+use mathlib.Core.Bool.{true, false, cond}
 use mathlib.Core.List.{List}
 use Prim.Native.Nat.{ℕ}
 use lib.Dec.{leb}

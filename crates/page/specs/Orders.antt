@@ -1,6 +1,6 @@
 -- The order line, by its questions in the order in which they are asked: is there a byte 10 among the first 32 bytes,
 -- with exactly four fields before it, and is each field right, from the left?
-use mathlib.Core.Bool.{Bool, false, cond, _&&_, _||_}
+use mathlib.Core.Bool.{Bool, false, cond, _||_}
 use mathlib.Core.List.{List, [], _∷_}
 use Prim.Native.Nat.{ℕ, zero, suc}
 use lib.Dec.{eqb}

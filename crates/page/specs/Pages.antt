@@ -2,7 +2,6 @@
 use mathlib.Core.List.{List, [], _∷_, _++_}
 use Prim.Native.Nat.{ℕ}
 use lib.Chars.{codes}
-use lib.ListN.{length}
 use Rattle.std.specs.Options.{okOr}
 use Rattle.std.specs.Written.{decimal}
 use Rattle.std.specs.shelf.Lists.{joined, sumBy}

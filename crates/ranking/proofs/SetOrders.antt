@@ -1,18 +1,14 @@
 -- The order of sets is total, under every ranking.
-use mathlib.Core.Path.{_≡_, sym, ap, ap₂, _∙_}
+use mathlib.Core.Path.{_≡_, ap₂, _∙_}
 use mathlib.Core.Bool.{Bool, cond, true, false}
-use mathlib.Core.List.{List}
-use Prim.Native.Nat.{ℕ}
 use lib.Count.{ones}
 use lib.Dec.{leb}
 use Rattle.tree.specs.Orders.{Ranked, Total, lex, by}
 use Rattle.tree.specs.Sets.{set-le}
-use Rattle.tree.specs.declared.line.Part.{Part}
-use Rattle.tree.specs.declared.line.Row.{Row}
 use Rattle.tree.proofs.Lowest.{set-order}
 use Rattle.tree.proofs.Orders.{leb-total, by-ranked, lex-ranked, lex-both}
 use Rattle.ranking.specs.Models.{Model, Lawful}
-use Rattle.ranking.specs.SetOrder.{size-then-line, weighed-le, set-at-most, Orders-sets}
+use Rattle.ranking.specs.SetOrder.{size-then-line, weighed-le, Orders-sets}
 use Rattle.ranking.specs.Weights.{weigh}
 use Rattle.ranking.specs.declared.set_order.Weighed.{Weighed}
 

@@ -8,7 +8,7 @@ use native.Mathlib.Omega.{arith}
 use lib.Bits.{bitOr}
 use lib.Dec.{eqb, leb}
 use lib.ListN.{length, getD, drop}
-use Rattle.std.specs.Options.{okOr, isSome}
+use Rattle.std.specs.Options.{isSome}
 use Rattle.std.specs.Written.{decimal}
 use Rattle.std.specs.shelf.Lists.{Has}
 use Rattle.std.specs.declared.option.Option.{Option}
@@ -27,8 +27,7 @@ use Rattle.tree.specs.declared.line.Row.{Row}
 use Rattle.tree.proofs.Sets.{has-or, has-none, has-one, only-one, or-in, in-left, in-right}
 use Rattle.tree.proofs.Spelling.{spelled-name}
 use Rattle.tabbed_text.specs.Fields.{pieces, tabbed, lines-of}
-use Rattle.tabbed_text.specs.Questions.{then}
-use Rattle.tabbed_text.proofs.Chains.{refused, Went, went, ok-some, cond-some, allowed, not-refused}
+use Rattle.tabbed_text.proofs.Chains.{refused, went, ok-some, cond-some, allowed, not-refused}
 use Rattle.tabbed_text.proofs.Numerals.{number-written}
 use Rattle.tabbed_text.proofs.Splitting.{Ends, first-line, lines-split, no-lines, tabbed-pieces}
 use Rattle.station_file.specs.Descriptions.{name-at, Lists, Says, part, all-of, any-of, vote-of, always, never, Describes-after, Describes}
@@ -38,7 +37,6 @@ use Rattle.station_file.specs.Letters.{kind-of}
 use Rattle.station_file.specs.Names.{name-from, first-named, line-named}
 use Rattle.station_file.specs.Records.{kind-field, name-field, new-name, number-field, child-field, children, counted, part-numbers, part-body, all-body, any-body, vote-fields, vote-body, bare-body, body, row-of, record-of}
 use Rattle.station_file.proofs.Keeping.{up-ok}
-use Rattle.station_file.specs.declared.faults.FieldFault.{FieldFault}
 use Rattle.station_file.specs.declared.faults.StationFault.{StationFault}
 use Rattle.station_file.specs.declared.letters.Kind.{Kind}
 use Rattle.station_file.specs.declared.letters.Kind.the-variants.{Part, All, Any, Vote, Always, Never}

@@ -1,19 +1,18 @@
 -- One line more of a file.
-use mathlib.Core.Path.{_≡_, refl, sym, ap, subst, _∙_}
-use mathlib.Core.Bool.{Bool, true, false, cond}
+use mathlib.Core.Path.{_≡_, sym, ap, _∙_}
+use mathlib.Core.Bool.{cond}
 use mathlib.Core.List.{List, [], _∷_, _++_}
 use Prim.Native.Nat.{ℕ, suc, _+_, _<_, _≤_}
 use native.Mathlib.Omega.{arith}
 use native.Mathlib.Numerals.{add-one}
-use lib.Dec.{eqb, leb}
 use lib.ListN.{length}
-use Rattle.std.proofs.shelf.Tests.{cond-true, cond-false, le-leb, lt-leb}
+use Rattle.std.proofs.shelf.Tests.{le-leb, lt-leb}
 use Rattle.std.proofs.shelf.Lists.{nil-from-length}
 use Rattle.std.specs.declared.result.Result.{Result}
 use Rattle.std.specs.declared.result.Result.the-variants.{Ok, Err}
 use Rattle.station_file.specs.Faults.{station-fault}
 use Rattle.tabbed_text.specs.Fields.{after, fields-of, lines-of}
-use Rattle.station_file.specs.Files.{read-rows, outcome, rows-or}
+use Rattle.station_file.specs.Files.{read-rows, rows-or}
 use Rattle.tabbed_text.specs.Questions.{then}
 use Rattle.station_file.specs.Records.{record-of}
 use Rattle.station_file.specs.declared.faults.StationCause.the-variants.{TooManyLines}

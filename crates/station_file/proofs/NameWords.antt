@@ -1,12 +1,12 @@
 -- Names as words.
-use mathlib.Core.Path.{_≡_, refl, sym, ap, subst, _∙_}
-use mathlib.Core.Bool.{Bool, true, false, cond, _&&_}
+use mathlib.Core.Path.{_≡_, sym, ap, subst, _∙_}
+use mathlib.Core.Bool.{true, false, _&&_}
 use mathlib.Core.List.{List, [], _∷_}
-use Prim.Native.Nat.{ℕ, zero, suc, _+_, _-_, _*_, _^_, _<_, _≤_, min}
+use Prim.Native.Nat.{ℕ, suc, _+_, _-_, _*_, _^_, _<_, _≤_, min}
 use native.Mathlib.Omega.{arith}
 use native.Mathlib.Nat.{pow-suc, pow-le-pow-right}
 use lib.ListN.{length, getD, drop, take, length-drop}
-use Rattle.std.proofs.shelf.Tests.{cond-true, cond-false, and-parts, leb-true, cases-lt}
+use Rattle.std.proofs.shelf.Tests.{cond-true, cond-false, cases-lt}
 use Rattle.std.proofs.shelf.Lists.{at-drop-more, at-drop-all, getD-drop, take-all, drop-all}
 use mathlib.Core.Logic.{⊎-elim}
 use Rattle.std.specs.declared.option.Option.the-variants.{Some, None}

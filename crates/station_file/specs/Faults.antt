@@ -7,7 +7,6 @@ use Rattle.station_file.specs.declared.faults.FieldCause.the-variants.{NotName
 use Rattle.station_file.specs.declared.faults.FieldFault.{FieldFault}
 use Rattle.station_file.specs.declared.faults.StationCause.{StationCause}
 use Rattle.station_file.specs.declared.faults.StationCause.the-variants.{Size, NoEnd, TooManyLines, Letter, NameTaken, FieldCount, UnknownChild, ChildTwice}
-use Rattle.station_file.specs.declared.faults.StationLayer.{StationLayer}
 use Rattle.station_file.specs.declared.faults.StationLayer.the-variants.{Field, Station}
 use Rattle.station_file.specs.declared.faults.StationFault.{StationFault}
 

@@ -1,10 +1,10 @@
 -- What one line of a station file says, by its questions in the order in which they are asked. `line` is its number
 -- from 1, `rows` are the lines above it, and fields count from 1.
-use mathlib.Core.Bool.{Bool, cond, _&&_}
+use mathlib.Core.Bool.{cond, _&&_}
 use mathlib.Core.List.{List, [], _∷_}
 use Prim.Native.Nat.{ℕ, suc, _^_}
 use lib.Bits.{bitOr}
-use lib.Dec.{eqb, leb}
+use lib.Dec.{leb}
 use lib.ListN.{length, drop}
 use Rattle.std.specs.Options.{okOr, isSome}
 use Rattle.std.specs.declared.option.Option.{Option}

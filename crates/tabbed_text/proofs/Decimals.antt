@@ -6,7 +6,7 @@ use Prim.Native.Nat.{ℕ, _+_, _-_, _*_, _<_, _≤_}
 use native.Mathlib.Omega.{arith}
 use lib.Dec.{eqb, leb}
 use lib.ListN.{length, getD, drop}
-use Rattle.std.proofs.shelf.Tests.{and-from, and-left, and-right, or-from, le-leb, lt-leb, eq-eqb, ne-eqb, cond-true, cond-false, not-from-true}
+use Rattle.std.proofs.shelf.Tests.{and-from, and-left, and-right, or-from, le-leb, lt-leb, eq-eqb, ne-eqb, cond-false, not-from-true}
 use Rattle.std.proofs.shelf.Lists.{at-drop-more, at-drop-all}
 use Rattle.std.proofs.shelf.Ways.{tells}
 use Rattle.std.specs.declared.option.Option.the-variants.{Some, None}

@@ -1,16 +1,14 @@
 -- The next field of what a walk has yet to read, how many follow, and the next line.
 use mathlib.Core.Path.{_≡_, refl, sym, ap, _∙_}
 use mathlib.Core.Bool.{Bool, true, false, cond}
-use mathlib.Core.List.{List, [], _∷_, _++_, map}
+use mathlib.Core.List.{List, [], _∷_}
 use Prim.Native.Nat.{ℕ, suc, _+_, _-_, _<_, _≤_}
 use native.Mathlib.Omega.{arith}
-use lib.Dec.{eqb, leb}
-use lib.ListN.{length, getD, drop, take, length-drop}
-use Rattle.std.specs.shelf.Lists.{All}
-use Rattle.std.proofs.shelf.Lists.{drop-drop, at-drop-more, at-drop-all, take-append-drop, drop-more}
-use Rattle.std.proofs.shelf.Tests.{cond-both, cond-true, cond-false, eq-eqb, ne-eqb, eqb-true, or-from}
-use Rattle.std.proofs.shelf.Ways.{tells}
-use Rattle.tabbed_text.specs.Fields.{up-to, after, prepend, pieces, ended, fields-of, lines-of, parts, parted, field-len, more-fields, Field-of, Tab-first, Ends-field}
+use lib.Dec.{eqb}
+use lib.ListN.{length, getD, drop, take}
+use Rattle.std.proofs.shelf.Lists.{drop-drop, at-drop-more, at-drop-all, drop-more}
+use Rattle.std.proofs.shelf.Tests.{cond-both, cond-true, cond-false, eq-eqb, ne-eqb, eqb-true}
+use Rattle.tabbed_text.specs.Fields.{up-to, after, prepend, pieces, fields-of, parts, field-len, more-fields, Field-of, Tab-first, Ends-field}
 
 -- ---- how long a field is
 

@@ -12,7 +12,7 @@ use lib.ListN.{length}
 use Rattle.std.proofs.shelf.Tests.{leb-true, leb-false, le-leb, lt-leb, ltb-true, cases-bool, and-parts, both-ways}
 use Rattle.tree.specs.Holding.{the-line, told, parts-of, holds-by, line-holds, holding, Holding-laws}
 use Rattle.tree.specs.Lines.{part-line}
-use Rattle.tree.specs.Rules.{part-ok, gate-ok, line-ok, lines-ok, names-ok, names-of, keeps-rules}
+use Rattle.tree.specs.Rules.{gate-ok, line-ok, lines-ok, names-ok, names-of, keeps-rules}
 use Rattle.tree.specs.Sets.{has, _⊆_, Below}
 use Rattle.tree.specs.declared.line.Part.{Part}
 use Rattle.tree.specs.declared.line.Gate.{Gate}

@@ -1,6 +1,6 @@
 -- Sets as words of a width: how many lines, what is within what, and the highest line, by the machine's operations.
 use mathlib.Core.Path.{_≡_, refl, sym, ap, subst, _∙_}
-use mathlib.Core.Bool.{Bool, true, false, not}
+use mathlib.Core.Bool.{true, false, not}
 use mathlib.Core.Logic.{_≢_, _⊎_, inl, inr, ⊎-elim}
 use Prim.Native.Nat.{ℕ, zero, suc, _+_, _-_, _/_, _%_, _^_, _<_, _≤_}
 use native.Mathlib.Omega.{arith}
@@ -11,7 +11,7 @@ use lib.Dec.{eqb}
 use lib.Pow.{pow-mono}
 use Rattle.std.proofs.shelf.Tests.{eqb-true, eqb-false, eq-eqb, both-ways, cases-bool, cases-order}
 use Rattle.std.proofs.shelf.Ways.{tells}
-use Rattle.tree.specs.Sets.{has, _⊆_, within, Below, Counts, Tells, Highest}
+use Rattle.tree.specs.Sets.{has, _⊆_, within, Counts, Tells, Highest}
 use Rattle.tree.proofs.Holding.{lt-below}
 use Rattle.tree.proofs.Sets.{same-test, has-zero, has-suc, has-none, has-le, below-lt, empty, in-meet, meet-left, meet-right, within-sub, sub-within, ones-none, one-more}
 

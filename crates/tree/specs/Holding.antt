@@ -2,7 +2,7 @@
 -- below their gate. The laws above this definition: a part holds exactly when it is in the set, a gate exactly when at
 -- least `need` of its children hold.
 use mathlib.Core.Path.{_≡_}
-use mathlib.Core.Bool.{Bool, true, cond}
+use mathlib.Core.Bool.{Bool, cond}
 use mathlib.Core.List.{List, [], _∷_}
 use Prim.Native.Nat.{ℕ, zero, suc, _-_, _^_}
 use lib.Bits.{bitAnd, bitOr}

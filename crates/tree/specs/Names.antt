@@ -1,6 +1,6 @@
 -- A name is 1 to 12 ASCII letters, digits or hyphens. It is kept as two words and a length: the first eight bytes are
 -- the base-256 digits of `head`, lowest first, the others those of `tail`, and digits past the length are 0.
-use mathlib.Core.Bool.{Bool, true, false, cond, _&&_, _||_}
+use mathlib.Core.Bool.{Bool, true, _&&_, _||_}
 use mathlib.Core.List.{List, [], _∷_, _++_}
 use Prim.Native.Nat.{ℕ, zero, suc, _+_, _-_, _*_, _/_, _%_, min}
 use lib.Dec.{eqb, leb}

@@ -1,7 +1,7 @@
-use mathlib.Core.Path.{_≡_, refl, sym, ap, _∙_}
-use Prim.Native.Nat.{_+_, _-_, _<_}
+use mathlib.Core.Path.{_≡_, sym, ap}
+use Prim.Native.Nat.{_+_, _-_}
 use native.Mathlib.Omega.{arith}
-use lib.ListN.{drop, length, getD}
+use lib.ListN.{drop, length}
 use Rattle.tree.specs.Names.{packed}
 use Rattle.station_file.proofs.NameWords.{pack-step, pack-end, pack-room}
 use Rattle.station_file.proofs.names.word_of.Needs as need

@@ -6,7 +6,7 @@ use native.Mathlib.Omega.{arith}
 use lib.ListN.{drop, getD, length}
 use Rattle.std.proofs.shelf.Tests.{eqb-false}
 use Rattle.tabbed_text.specs.Numbers.{all-digits}
-use Rattle.tabbed_text.proofs.Decimals.{none-empty, none-zero, none-digits, none-high, some-number, digits-step, digits-end, value-step, value-end, value-ge}
+use Rattle.tabbed_text.proofs.Decimals.{none-digits, none-high, some-number, digits-step, digits-end, value-step, value-end, value-ge}
 use Rattle.tabbed_text.proofs.numbers.number_to.Needs as need
 
 pub returns-then-not-is-digit : need.returns-then-not-is-digit

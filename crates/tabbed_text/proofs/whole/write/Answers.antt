@@ -1,4 +1,3 @@
-use mathlib.Core.Path.{_∙_}
 use borrow.Author.Needs.{needs}
 use Rattle.tabbed_text.proofs.Placing.{placed-all}
 use Rattle.tabbed_text.proofs.whole.write.Needs as need

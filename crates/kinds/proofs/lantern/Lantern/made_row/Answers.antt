@@ -5,7 +5,6 @@ use Rattle.tree.specs.declared.line.Line.{Line}
 use Rattle.tree.specs.declared.line.Line.the-variants as line
 use Rattle.tree.specs.declared.line.Name.{Name}
 use Rattle.tree.specs.declared.line.Part.{Part}
-use Rattle.tree.specs.declared.line.Row.{Row}
 use Rattle.kinds.specs.Lanterns.{numbered, tier-line, last-line, lantern-row}
 use Rattle.kinds.proofs.LanternRows.{lamp-row, tier-row, last-row}
 use Rattle.kinds.proofs.lantern.Lantern.made_row.Needs as need

@@ -1,4 +1,4 @@
-use Rattle.std.proofs.shelf.Tests.{both-ways, eqb-true, eqb-false, lt-ltb, le-ltb}
+use Rattle.std.proofs.shelf.Tests.{both-ways, eqb-true, eqb-false, le-ltb}
 use Rattle.tabbed_text.proofs.Walking.{none-past, none-here, tab-here}
 use Rattle.tabbed_text.proofs.fields.walk.is_tab.Needs as need
 
