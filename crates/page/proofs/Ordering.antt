@@ -15,7 +15,7 @@ use Rattle.std.specs.declared.result.Result.the-variants.{Ok}
 use Rattle.std.proofs.shelf.Decimals.{length-decimal-le}
 use Rattle.std.proofs.shelf.Lists.{append-assoc, append-cancel-left, length-append}
 use Rattle.std.proofs.shelf.Tests.{cond-true, eqb-true}
-use Rattle.tabbed_text.specs.Fields.{up-to, after, tabbed, fields-of, parts}
+use Rattle.tabbed_text.specs.Fields.{up-to, after, tabbed, fields-of, separates}
 use Rattle.tabbed_text.proofs.Chains.{refused, went, goes, ok-some, allowed}
 use Rattle.tabbed_text.proofs.NextLines.{first-line}
 use Rattle.tabbed_text.proofs.Numerals.{number-written, written-number, decimal-unparted}
@@ -31,7 +31,7 @@ use Rattle.page.proofs.Heading.{line-whole, within-line}
 
 -- ---- the first line of a text
 
-module _ (fs : List (List ℕ)) (rest : List ℕ) (some : 0 < length fs) (free : All (λ f. All (λ b. parts b ≡ false) f) fs) where
+module _ (fs : List (List ℕ)) (rest : List ℕ) (some : 0 < length fs) (free : All (λ f. All (λ b. separates b ≡ false) f) fs) where
   fields-line : fields-of (tabbed fs ++ (10 ∷ rest)) ≡ fs
   fields-line =
       let bs = tabbed fs ++ (10 ∷ rest) in
@@ -107,13 +107,13 @@ line-written (y ∷ (g ∷ (l ∷ (k ∷ (x ∷ xs))))) o e = refused _ o _ e
 
 -- ---- the order line
 
-letter-unparted : (k : Criterion) → parts (letter k) ≡ false
+letter-unparted : (k : Criterion) → separates (letter k) ≡ false
 letter-unparted Price = refl
 letter-unparted Rarity = refl
 letter-unparted Class = refl
 letter-unparted Size = refl
 
-words-unparted : (o : Order) → Order-ok o → All (λ f. All (λ b. parts b ≡ false) f) (order-words o)
+words-unparted : (o : Order) → Order-ok o → All (λ f. All (λ b. separates b ≡ false) f) (order-words o)
 words-unparted o ok = (
   decimal-unparted (o .year) (omega arith),
   (

@@ -28,12 +28,12 @@ use Rattle.tree.specs.declared.line.Name.{Name}
 use Rattle.tree.specs.declared.line.Row.{Row}
 use Rattle.tree.proofs.Sets.{has-none, has-one, has-or, has-pow, only-one, or-in, in-left, in-right, same-lines, ones-none, has-past}
 use Rattle.tree.proofs.Spelling.{same-refl, same-sym, name-of-spelled, spelled-well, name-unparted}
-use Rattle.tabbed_text.specs.Fields.{parts, lines-of, tabbed}
+use Rattle.tabbed_text.specs.Fields.{separates, lines-of, tabbed}
 use Rattle.tabbed_text.specs.Questions.{then}
 use Rattle.tabbed_text.proofs.Chains.{goes}
 use Rattle.tabbed_text.proofs.Splitting.{lines-cons}
 use Rattle.tabbed_text.proofs.Numerals.{written-number, decimal-unparted}
-use Rattle.station_file.specs.Descriptions.{name-at, Lists, part-fields, Says, Describes-after, Describes}
+use Rattle.station_file.specs.Descriptions.{spelled-at, Lists, part-fields, Says, Describes-after, Describes}
 use Rattle.station_file.specs.Descriptions.Says.{part, all-of, any-of, vote-of, always, never}
 use Rattle.station_file.specs.Faults.{field-fault, station-fault, up}
 use Rattle.station_file.specs.Letters.{kind-of}
@@ -90,12 +90,12 @@ names-above (x ∷ xs) ys e =
 
 -- ---- finding a line by its name
 
-well-at : (rows : List Row) (i : ℕ) → i < length rows → names-ok (names-of rows) ≡ true → well-named (name-at rows i) ≡ true
+well-at : (rows : List Row) (i : ℕ) → i < length rows → names-ok (names-of rows) ≡ true → well-named (spelled-at rows i) ≡ true
 well-at [] i lt ok = let z : ⊥ = omega arith in absurd z
 well-at (r ∷ rs) zero lt ok = spelled-well (r .name) (names-parts (r .name) (names-of rs) ok .0)
 well-at (r ∷ rs) (suc i) lt ok = well-at rs i (omega arith) (names-parts (r .name) (names-of rs) ok .2)
 
-other-name : (n : Name) (rows : List Row) (i : ℕ) → i < length rows → names-ok (names-of rows) ≡ true → among n (names-of rows) ≡ false → same-name n (name-of (name-at rows i)) ≡ false
+other-name : (n : Name) (rows : List Row) (i : ℕ) → i < length rows → names-ok (names-of rows) ≡ true → among n (names-of rows) ≡ false → same-name n (name-of (spelled-at rows i)) ≡ false
 other-name n [] i lt ok e = let z : ⊥ = omega arith in absurd z
 other-name n (r ∷ rs) zero lt ok e =
     ap (same-name n) (name-of-spelled (r .name) (names-parts (r .name) (names-of rs) ok .0))
@@ -103,7 +103,7 @@ other-name n (r ∷ rs) zero lt ok e =
 other-name n (r ∷ rs) (suc i) lt ok e =
     other-name n rs i (omega arith) (names-parts (r .name) (names-of rs) ok .2) (or-parts (same-name (r .name) n) (among n (names-of rs)) e .1)
 
-first-found : (j : ℕ) (rows : List Row) (i : ℕ) → i < length rows → names-ok (names-of rows) ≡ true → first-named j rows (name-of (name-at rows i)) ≡ Some (j + i)
+first-found : (j : ℕ) (rows : List Row) (i : ℕ) → i < length rows → names-ok (names-of rows) ≡ true → first-named j rows (name-of (spelled-at rows i)) ≡ Some (j + i)
 first-found j [] i lt ok = let z : ⊥ = omega arith in absurd z
 first-found j (r ∷ rs) zero lt ok =
     let is = name-of-spelled (r .name) (names-parts (r .name) (names-of rs) ok .0) in
@@ -112,20 +112,20 @@ first-found j (r ∷ rs) zero lt ok =
 first-found j (r ∷ rs) (suc i) lt ok =
     let p = names-parts (r .name) (names-of rs) ok in
     let z : suc j + i ≡ j + suc i = omega arith in
-    cond-false (same-name (r .name) (name-of (name-at rs i))) (Some j) _ (other-name (r .name) rs i (omega arith) (p .2) (p .1))
+    cond-false (same-name (r .name) (name-of (spelled-at rs i))) (Some j) _ (other-name (r .name) rs i (omega arith) (p .2) (p .1))
     ∙ first-found (suc j) rs i (omega arith) (p .2) ∙ ap Some z
 
 -- names differ, so the first line that has the name of line i is line i
-pub line-found : (rows : List Row) (i : ℕ) → i < length rows → names-ok (names-of rows) ≡ true → line-named rows (name-from (name-at rows i)) ≡ Some i
+pub line-found : (rows : List Row) (i : ℕ) → i < length rows → names-ok (names-of rows) ≡ true → line-named rows (name-from (spelled-at rows i)) ≡ Some i
 line-found rows i lt ok =
-    ap (line-named rows) (cond-true (well-named (name-at rows i)) (Some (name-of (name-at rows i))) None (well-at rows i lt ok))
+    ap (line-named rows) (cond-true (well-named (spelled-at rows i)) (Some (name-of (spelled-at rows i))) None (well-at rows i lt ok))
     ∙ first-found 0 rows i lt ok ∙ ap Some (zero-add i)
 
 -- ---- gathering children
 
 -- the names of lines, each in a field
 abbrev fields-at : List Row → List ℕ → List (List ℕ)
-fields-at above cs = map (name-at above) cs
+fields-at above cs = map (spelled-at above) cs
 
 -- the set with the lines of the list besides
 abbrev gathering : ℕ → List ℕ → ℕ
@@ -155,7 +155,7 @@ children-found : (line field : ℕ) (above : List Row) (set : ℕ) (cs : List �
     → All (λ c. has set c ≡ false) cs → Apart cs → children line field above set (fields-at above cs) ≡ Ok (gathering set cs)
 children-found line field above set [] ok low new apart = refl
 children-found line field above set (c ∷ cs) ok low new apart =
-    goes (child-field line field set (line-named above (name-from (name-at above c)))) _ c
+    goes (child-field line field set (line-named above (name-from (spelled-at above c)))) _ c
     (ap (child-field line field set) (line-found above c (low .0) ok) ∙ cond-false (has set c) _ (Ok c) (new .0))
     ∙ children-found line (suc field) above (bitOr set (2 ^ c)) cs ok (low .1) (still-new set c cs (new .1) (apart .0)) (apart .1)
 
@@ -199,13 +199,13 @@ module _ (above : List Row) (cs : List ℕ) (set : ℕ) (names : names-ok (names
   pub children-count : ones set ≡ length cs
   children-count =
       let k = gathered 0 0 above 0 (fields-at above cs) set (λ i h. none-in (i < length above) i h) (children-read 0 0) in
-      omega (arith, k .1, ones-none, length-map cs (name-at above))
+      omega (arith, k .1, ones-none, length-map cs (spelled-at above))
 
 -- ---- one line
 
 -- no byte of the fields ends a field
 abbrev Unparted : List (List ℕ) → Type 0
-Unparted fs = All (λ f. All (λ b. parts b ≡ false) f) fs
+Unparted fs = All (λ f. All (λ b. separates b ≡ false) f) fs
 
 -- the fields are cut apart again, and are read as the row
 record Good (above : List Row) (r : Row) (fs : List (List ℕ)) : Type 0 where
@@ -213,7 +213,7 @@ record Good (above : List Row) (r : Row) (fs : List (List ℕ)) : Type 0 where
   unparted : Unparted fs
   reads : (line : ℕ) → record-of line above fs ≡ Ok r
 
-well-unparted : (bs : List ℕ) → well-named bs ≡ true → All (λ b. parts b ≡ false) bs
+well-unparted : (bs : List ℕ) → well-named bs ≡ true → All (λ b. separates b ≡ false) bs
 well-unparted bs e = name-unparted bs (and-parts (leb 1 (length bs) && leb (length bs) 12) (name-bytes bs) e .1)
 
 number-read : (low high line field n : ℕ) → high < 2 ^ 64 → low ≤ n → n ≤ high → up (number-field low high line field (decimal n)) ≡ Ok n
@@ -238,7 +238,7 @@ module _ (above : List Row) (r : Row) (kept : line-ok (length above) (r .line) �
       cond-true (well-named (spelled (r .name))) (Some (name-of (spelled (r .name)))) None (spelled-well (r .name) named)
       ∙ ap Some (name-of-spelled (r .name) named)
 
-  good : (letter : ℕ) (kind : Kind) (more : List (List ℕ)) → kind-of (letter ∷ []) ≡ Some kind → parts letter ≡ false → Unparted more
+  good : (letter : ℕ) (kind : Kind) (more : List (List ℕ)) → kind-of (letter ∷ []) ≡ Some kind → separates letter ≡ false → Unparted more
       → ((line : ℕ) → body line above kind more ≡ Ok (r .line)) → Good above r (spelled (r .name) ∷ ((letter ∷ []) ∷ more))
   good letter kind more is cut fields says = record {
     some = omega arith;
@@ -277,12 +277,12 @@ module _ (above : List Row) (r : Row) (kept : line-ok (length above) (r .line) �
     count = children-count above cs set names (rules .0) lists
 
     size : length (fields-at above cs) ≡ length cs
-    size = length-map cs (name-at above)
+    size = length-map cs (spelled-at above)
 
     cut : Unparted (fields-at above cs)
     cut =
-        all-map (λ f. All (λ b. parts b ≡ false) f) (name-at above) cs
-        (all-weaker (λ c. c < length above) (λ c. All (λ b. parts b ≡ false) (name-at above c)) (λ c h. well-unparted (name-at above c) (well-at above c h names)) cs
+        all-map (λ f. All (λ b. separates b ≡ false) f) (spelled-at above) cs
+        (all-weaker (λ c. c < length above) (λ c. All (λ b. separates b ≡ false) (spelled-at above c)) (λ c h. well-unparted (spelled-at above c) (well-at above c h names)) cs
         (all-under above cs set names (rules .0) lists))
 
     within : (low high : ℕ) (fs : List (List ℕ)) → low ≤ length fs → length fs ≤ high → (leb low (length fs) && leb (length fs) high) ≡ true
@@ -297,17 +297,17 @@ module _ (above : List Row) (r : Row) (kept : line-ok (length above) (r .line) �
         ∙ ap (λ k. Ok (gate set k)) e ∙ ap Ok (sym is)
 
     all-good : need ≡ length cs → Good above r (spelled (r .name) ∷ ((65 ∷ []) ∷ fields-at above cs))
-    all-good e = good 65 a-kind.All (fields-at above cs) refl refl cut
+    all-good e = good 65 a-kind.And (fields-at above cs) refl refl cut
         (λ line. cond-true _ _ _ enough ∙ then-gate line 3 (length (fields-at above cs)) (size ∙ sym e))
 
     any-good : need ≡ 1 → Good above r (spelled (r .name) ∷ ((79 ∷ []) ∷ fields-at above cs))
-    any-good e = good 79 a-kind.Any (fields-at above cs) refl refl cut
+    any-good e = good 79 a-kind.Or (fields-at above cs) refl refl cut
         (λ line. cond-true _ _ _ enough ∙ then-gate line 3 1 (sym e))
 
     vote-good : Good above r (spelled (r .name) ∷ ((86 ∷ []) ∷ (decimal need ∷ fields-at above cs)))
     vote-good =
         let n = rules .2 (omega (arith, count)) in
-        good 86 a-kind.Vote (decimal need ∷ fields-at above cs) refl refl (decimal-unparted need (omega (arith, rules .1, n .1)), cut)
+        good 86 a-kind.AtLeast (decimal need ∷ fields-at above cs) refl refl (decimal-unparted need (omega (arith, rules .1, n .1)), cut)
         (λ line.
         cond-true _ _ _ (within 2 13 (decimal need ∷ fields-at above cs) (omega (arith, size)) (omega (arith, size, count, rules .1)))
         ∙ goes (up (number-field 1 (length (fields-at above cs)) line 3 (decimal need))) _ need

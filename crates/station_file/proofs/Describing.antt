@@ -30,7 +30,7 @@ use Rattle.tabbed_text.specs.Fields.{pieces, tabbed, lines-of}
 use Rattle.tabbed_text.proofs.Chains.{refused, went, ok-some, cond-some, allowed, not-refused}
 use Rattle.tabbed_text.proofs.Numerals.{number-written}
 use Rattle.tabbed_text.proofs.Splitting.{Ends, first-line, lines-split, no-lines, tabbed-pieces}
-use Rattle.station_file.specs.Descriptions.{name-at, Lists, Says, part, all-of, any-of, vote-of, always, never, Describes-after, Describes}
+use Rattle.station_file.specs.Descriptions.{spelled-at, Lists, Says, part, all-of, any-of, vote-of, always, never, Describes-after, Describes}
 use Rattle.station_file.specs.Faults.{up}
 use Rattle.station_file.specs.Files.{read-rows, read-file}
 use Rattle.station_file.specs.Letters.{kind-of}
@@ -39,7 +39,7 @@ use Rattle.station_file.specs.Records.{kind-field, name-field, new-name, numbe
 use Rattle.station_file.proofs.Keeping.{up-ok}
 use Rattle.station_file.specs.declared.faults.StationFault.{StationFault}
 use Rattle.station_file.specs.declared.letters.Kind.{Kind}
-use Rattle.station_file.specs.declared.letters.Kind.the-variants.{Part, All, Any, Vote, Always, Never}
+use Rattle.station_file.specs.declared.letters.Kind.the-variants.{Part, And, Or, AtLeast, Always, Never}
 
 -- ---- questions that were answered well
 
@@ -54,9 +54,9 @@ cond-ok false x n a e = (refl, cc)
 
 abbrev letter : Kind → ℕ
 letter Part = 69
-letter All = 65
-letter Any = 79
-letter Vote = 86
+letter And = 65
+letter Or = 79
+letter AtLeast = 86
 letter Always = 84
 letter Never = 70
 
@@ -67,8 +67,8 @@ letter-else b x k rest false t e more = more e
 kind-letter : (f : List ℕ) (k : Kind) → kind-of f ≡ Some k → f ≡ letter k ∷ []
 kind-letter [] k e = none-some k _ e
 kind-letter (b ∷ []) k e = ap (λ x. x ∷ [])
-    (letter-else b Part k _ (eqb b 69) refl e (λ e. letter-else b All k _ (eqb b 65) refl e (λ e.
-    letter-else b Any k _ (eqb b 79) refl e (λ e. letter-else b Vote k _ (eqb b 86) refl e (λ e.
+    (letter-else b Part k _ (eqb b 69) refl e (λ e. letter-else b And k _ (eqb b 65) refl e (λ e.
+    letter-else b Or k _ (eqb b 79) refl e (λ e. letter-else b AtLeast k _ (eqb b 86) refl e (λ e.
     letter-else b Always k _ (eqb b 84) refl e (λ e. letter-else b Never k _ (eqb b 70) refl e (λ e. none-some k _ e)))))))
 kind-letter (b ∷ (d ∷ bs)) k e = none-some k _ e
 
@@ -97,7 +97,7 @@ same-spelled a b e =
 record Found (k : ℕ) (rows : List Row) (n : Name) (i : ℕ) : Type 0 where
   at : ℕ
   is : i ≡ k + at
-  named : name-at rows at ≡ spelled n
+  named : spelled-at rows at ≡ spelled n
 
 found-cons : (k : ℕ) (r : Row) (rs : List Row) (n : Name) (i : ℕ) (t : Bool) → same-name (r .name) n ≡ t → cond t (Some k) (first-named (suc k) rs n) ≡ Some i → (first-named (suc k) rs n ≡ Some i → Found (suc k) rs n i) → Found k (r ∷ rs) n i
 found-cons k r rs n i true t e more =
@@ -111,17 +111,17 @@ found : (k : ℕ) (rows : List Row) (n : Name) (i : ℕ) → first-named k rows 
 found k [] n i e = none-some i _ e
 found k (r ∷ rs) n i e = found-cons k r rs n i (same-name (r .name) n) refl e (found (suc k) rs n i)
 
-named-found : (rows : List Row) (n : Name) (i : ℕ) → first-named 0 rows n ≡ Some i → name-at rows i ≡ spelled n
+named-found : (rows : List Row) (n : Name) (i : ℕ) → first-named 0 rows n ≡ Some i → spelled-at rows i ≡ spelled n
 named-found rows n i e =
     let f = found 0 rows n i e in
     let is : i ≡ f .at = omega (arith, f .is) in
-    ap (name-at rows) is ∙ f .named
+    ap (spelled-at rows) is ∙ f .named
 
 named-cond : (rows : List Row) (b : Bool) (n : Name) (i : ℕ) → line-named rows (cond b (Some n) None) ≡ Some i → (b ≡ true) × (first-named 0 rows n ≡ Some i)
 named-cond rows true n i e = (refl, e)
 named-cond rows false n i e = none-some i _ e
 
-line-named-says : (rows : List Row) (f : List ℕ) (i : ℕ) → line-named rows (name-from f) ≡ Some i → name-at rows i ≡ f
+line-named-says : (rows : List Row) (f : List ℕ) (i : ℕ) → line-named rows (name-from f) ≡ Some i → spelled-at rows i ≡ f
 line-named-says rows f i e =
     let c = named-cond rows (well-named f) (name-of f) i e in
     named-found rows (name-of f) i (c .1) ∙ name-says f (c .0)
@@ -144,7 +144,7 @@ has-cons x c xs h = go (h .0) (h .1) (h .2)
 -- the fields name lines that are not in the set, each once, and `out` is the set with them
 record Named (rows : List Row) (set : ℕ) (fs : List (List ℕ)) (out : ℕ) : Type 0 where
   cs : List ℕ
-  named : fs ≡ map (name-at rows) cs
+  named : fs ≡ map (spelled-at rows) cs
   new : (c : ℕ) → Has cs c → has set c ≡ false
   once : (i j c : ℕ) → i < j → j < length cs → getD cs i c ≡ getD cs j c → ⊥
   kept : (c : ℕ) → has set c ≡ true → has out c ≡ true
@@ -163,7 +163,7 @@ none-named rows set =
       every = λ c e. inl e;
     }
 
-module _ (rows : List Row) (set : ℕ) (f : List ℕ) (fs : List (List ℕ)) (out x : ℕ) (is : name-at rows x ≡ f) (fresh : has set x ≡ false) (m : Named rows (bitOr set (2 ^ x)) fs out) where
+module _ (rows : List Row) (set : ℕ) (f : List ℕ) (fs : List (List ℕ)) (out x : ℕ) (is : spelled-at rows x ≡ f) (fresh : has set x ≡ false) (m : Named rows (bitOr set (2 ^ x)) fs out) where
   cons-new : (c : ℕ) → Has (x ∷ m .cs) c → has set c ≡ false
   cons-new c h =
       ⊎-elim (λ e. subst (λ y. has set y ≡ false) e fresh)
@@ -215,7 +215,7 @@ children-say line field rows set (f ∷ fs) out e =
 -- the fields name the lines of `out`, each once
 record Listed (rows : List Row) (fs : List (List ℕ)) (out : ℕ) : Type 0 where
   cs : List ℕ
-  named : fs ≡ map (name-at rows) cs
+  named : fs ≡ map (spelled-at rows) cs
   lists : Lists cs out
   count : length fs ≡ length cs
 
@@ -231,7 +231,7 @@ children-list line field rows fs out e =
             only = m .only;
             every = λ c e. ⊎-elim (λ z. absurd (both-ways (has 0 c) (has-none c) z)) (λ h. h) (m .every c e);
           };
-      count = ap length (m .named) ∙ length-map (m .cs) (name-at rows);
+      count = ap length (m .named) ∙ length-map (m .cs) (spelled-at rows);
     }
 
 -- ---- records
@@ -269,21 +269,21 @@ module _ (line : ℕ) (rows : List Row) (n : Name) where
   part-body-says (r ∷ (c ∷ (d ∷ (p ∷ [])))) l e = part-says r c d p l e
   part-body-says (r ∷ (c ∷ (d ∷ (p ∷ (x ∷ xs))))) l e = refused _ l _ e
 
-  all-body-says : (fs : List (List ℕ)) (l : Line) → all-body line rows fs ≡ Ok l → Said All fs l
+  all-body-says : (fs : List (List ℕ)) (l : Line) → all-body line rows fs ≡ Ok l → Said And fs l
   all-body-says fs l e =
       let c = counted-is 1 12 line fs _ l e in
       let w = went (children line 3 rows 0 fs) _ l (c .2) in
       let m = children-list line 3 rows fs (w .first) (w .was) in
       all-of (m .cs) (w .first) (omega (arith, c .0)) (m .lists) (cc (w .next, m .count)) (ap (λ gs. spelled n ∷ ((65 ∷ []) ∷ gs)) (m .named))
 
-  any-body-says : (fs : List (List ℕ)) (l : Line) → any-body line rows fs ≡ Ok l → Said Any fs l
+  any-body-says : (fs : List (List ℕ)) (l : Line) → any-body line rows fs ≡ Ok l → Said Or fs l
   any-body-says fs l e =
       let c = counted-is 1 12 line fs _ l e in
       let w = went (children line 3 rows 0 fs) _ l (c .2) in
       let m = children-list line 3 rows fs (w .first) (w .was) in
       any-of (m .cs) (w .first) (omega (arith, c .0)) (m .lists) (cc (w .next)) (ap (λ gs. spelled n ∷ ((79 ∷ []) ∷ gs)) (m .named))
 
-  vote-fields-says : (fs : List (List ℕ)) (l : Line) → 2 ≤ length fs → length fs ≤ 13 → vote-fields line rows fs ≡ Ok l → Said Vote fs l
+  vote-fields-says : (fs : List (List ℕ)) (l : Line) → 2 ≤ length fs → length fs ≤ 13 → vote-fields line rows fs ≡ Ok l → Said AtLeast fs l
   vote-fields-says [] l low high e = refused _ l _ e
   vote-fields-says (f ∷ fs) l low high e =
       let w = went (up (number-field 1 (length fs) line 3 f)) _ l e in
@@ -292,7 +292,7 @@ module _ (line : ℕ) (rows : List Row) (n : Name) where
       let m = children-list line 4 rows fs (v .first) (v .was) in
       vote-of (m .cs) (v .first) (w .first) (omega (arith, m .count)) (m .lists) (cc (v .next)) (ap₂ (λ g gs. spelled n ∷ ((86 ∷ []) ∷ (g ∷ gs))) need (m .named))
 
-  vote-body-says : (fs : List (List ℕ)) (l : Line) → vote-body line rows fs ≡ Ok l → Said Vote fs l
+  vote-body-says : (fs : List (List ℕ)) (l : Line) → vote-body line rows fs ≡ Ok l → Said AtLeast fs l
   vote-body-says fs l e =
       let c = counted-is 2 13 line fs _ l e in
       vote-fields-says fs l (c .0) (c .1) (c .2)
@@ -307,9 +307,9 @@ module _ (line : ℕ) (rows : List Row) (n : Name) where
 
   body-says : (k : Kind) (fs : List (List ℕ)) (l : Line) → body line rows k fs ≡ Ok l → Said k fs l
   body-says Part fs l e = part-body-says fs l e
-  body-says All fs l e = all-body-says fs l e
-  body-says Any fs l e = any-body-says fs l e
-  body-says Vote fs l e = vote-body-says fs l e
+  body-says And fs l e = all-body-says fs l e
+  body-says Or fs l e = any-body-says fs l e
+  body-says AtLeast fs l e = vote-body-says fs l e
   body-says Always fs l e = always-says fs l e
   body-says Never fs l e = never-says fs l e
 

@@ -37,7 +37,7 @@ use Rattle.station_file.specs.Files.{read-rows, read-file}
 use Rattle.station_file.specs.declared.faults.FieldFault.{FieldFault}
 use Rattle.station_file.specs.declared.faults.StationFault.{StationFault}
 use Rattle.station_file.specs.declared.letters.Kind.{Kind}
-use Rattle.station_file.specs.declared.letters.Kind.the-variants.{Part, All, Any, Vote, Always, Never}
+use Rattle.station_file.specs.declared.letters.Kind.the-variants.{Part, And, Or, AtLeast, Always, Never}
 
 -- an answer that the station layer passes on was one of the field layer
 pub up-ok : {A : Type 0} (r : Result A FieldFault) (a : A) → up r ≡ Ok a → r ≡ Ok a
@@ -171,9 +171,9 @@ bare-body-ok line need (f ∷ fs) l i low e = refused _ l _ e
 
 body-ok : (line : ℕ) (rows : List Row) (kind : Kind) (fs : List (List ℕ)) (l : Line) → body line rows kind fs ≡ Ok l → line-ok (length rows) l ≡ true
 body-ok line rows Part fs l e = part-body-ok line fs l (length rows) e
-body-ok line rows All fs l e = all-body-ok line rows fs l e
-body-ok line rows Any fs l e = any-body-ok line rows fs l e
-body-ok line rows Vote fs l e = vote-body-ok line rows fs l e
+body-ok line rows And fs l e = all-body-ok line rows fs l e
+body-ok line rows Or fs l e = any-body-ok line rows fs l e
+body-ok line rows AtLeast fs l e = vote-body-ok line rows fs l e
 body-ok line rows Always fs l e = bare-body-ok line 0 fs l (length rows) (omega arith) e
 body-ok line rows Never fs l e = bare-body-ok line 1 fs l (length rows) (omega arith) e
 

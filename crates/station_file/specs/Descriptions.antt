@@ -4,6 +4,7 @@ use mathlib.Core.Path.{_≡_}
 use mathlib.Core.Bool.{true}
 use mathlib.Core.List.{List, [], _∷_, _++_, map}
 use Prim.Native.Nat.{ℕ, zero, suc, _<_, _≤_}
+use lib.Chars.{codes}
 use lib.ListN.{length, getD}
 use Rattle.std.specs.shelf.Lists.{Has}
 use Rattle.std.specs.Written.{decimal}
@@ -20,10 +21,10 @@ use Rattle.station_file.specs.Records.{gate}
 use Rattle.station_file.specs.declared.faults.StationFault.{StationFault}
 
 -- the name of line i of the rows, by its bytes
-abbrev pub name-at : List Row → ℕ → List ℕ
-name-at [] i = []
-name-at (r ∷ rs) zero = spelled (r .name)
-name-at (r ∷ rs) (suc i) = name-at rs i
+abbrev pub spelled-at : List Row → ℕ → List ℕ
+spelled-at [] i = []
+spelled-at (r ∷ rs) zero = spelled (r .name)
+spelled-at (r ∷ rs) (suc i) = spelled-at rs i
 
 -- the list has each line of the set once, in any order, and no other
 pub record Lists (cs : List ℕ) (set : ℕ) : Type 0 where
@@ -38,15 +39,15 @@ part-fields p =
 
 -- fields that say the row, where `above` are the lines above it: the name, a letter, and what the letter asks for
 pub data Says (above : List Row) (r : Row) (fs : List (List ℕ)) : Type 0 where
-  part : (p : Part) → r .line ≡ a-line.Part p → fs ≡ spelled (r .name) ∷ ((69 ∷ []) ∷ part-fields p) → Says above r fs
+  part : (p : Part) → r .line ≡ a-line.Part p → fs ≡ spelled (r .name) ∷ (codes "E" ∷ part-fields p) → Says above r fs
   all-of : (cs : List ℕ) (set : ℕ) → 0 < length cs → Lists cs set → r .line ≡ gate set (length cs)
-      → fs ≡ spelled (r .name) ∷ ((65 ∷ []) ∷ map (name-at above) cs) → Says above r fs
+      → fs ≡ spelled (r .name) ∷ (codes "A" ∷ map (spelled-at above) cs) → Says above r fs
   any-of : (cs : List ℕ) (set : ℕ) → 0 < length cs → Lists cs set → r .line ≡ gate set 1
-      → fs ≡ spelled (r .name) ∷ ((79 ∷ []) ∷ map (name-at above) cs) → Says above r fs
+      → fs ≡ spelled (r .name) ∷ (codes "O" ∷ map (spelled-at above) cs) → Says above r fs
   vote-of : (cs : List ℕ) (set need : ℕ) → 0 < length cs → Lists cs set → r .line ≡ gate set need
-      → fs ≡ spelled (r .name) ∷ ((86 ∷ []) ∷ (decimal need ∷ map (name-at above) cs)) → Says above r fs
-  always : r .line ≡ gate 0 0 → fs ≡ spelled (r .name) ∷ ((84 ∷ []) ∷ []) → Says above r fs
-  never : r .line ≡ gate 0 1 → fs ≡ spelled (r .name) ∷ ((70 ∷ []) ∷ []) → Says above r fs
+      → fs ≡ spelled (r .name) ∷ (codes "V" ∷ (decimal need ∷ map (spelled-at above) cs)) → Says above r fs
+  always : r .line ≡ gate 0 0 → fs ≡ spelled (r .name) ∷ (codes "T" ∷ []) → Says above r fs
+  never : r .line ≡ gate 0 1 → fs ≡ spelled (r .name) ∷ (codes "F" ∷ []) → Says above r fs
 
 -- the bytes are the lines of the rows, which come after those above
 abbrev pub Describes-after : List Row → List ℕ → List Row → Type 0

@@ -26,7 +26,7 @@ use Rattle.station_file.specs.declared.faults.FieldFault.{FieldFault}
 use Rattle.station_file.specs.declared.faults.StationCause.the-variants.{Letter, NameTaken, FieldCount, UnknownChild, ChildTwice}
 use Rattle.station_file.specs.declared.faults.StationFault.{StationFault}
 use Rattle.station_file.specs.declared.letters.Kind.{Kind}
-use Rattle.station_file.specs.declared.letters.Kind.the-variants.{Part, All, Any, Vote, Always, Never}
+use Rattle.station_file.specs.declared.letters.Kind.the-variants.{Part, And, Or, AtLeast, Always, Never}
 
 -- is the field there and one of the six letters?
 abbrev pub kind-field : ℕ → List (List ℕ) → Result Kind StationFault
@@ -107,9 +107,9 @@ bare-body line need (f ∷ fs) = Err (station-fault line 0 FieldCount)
 
 abbrev pub body : ℕ → List Row → Kind → List (List ℕ) → Result Line StationFault
 body line rows Part fs = part-body line fs
-body line rows All fs = all-body line rows fs
-body line rows Any fs = any-body line rows fs
-body line rows Vote fs = vote-body line rows fs
+body line rows And fs = all-body line rows fs
+body line rows Or fs = any-body line rows fs
+body line rows AtLeast fs = vote-body line rows fs
 body line rows Always fs = bare-body line 0 fs
 body line rows Never fs = bare-body line 1 fs
 

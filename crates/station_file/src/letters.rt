@@ -5,9 +5,9 @@ ghost use Rattle.station_file.specs.Letters.{kind-of};
 #[derive(Clone, Copy)]
 pub enum Kind {
     Part,
-    All,
-    Any,
-    Vote,
+    And,
+    Or,
+    AtLeast,
     Always,
     Never,
 }
@@ -21,9 +21,9 @@ pub fn record_kind(field: &[u8]) -> Option<Kind>
     };
     match *letter as char {
         'E' => Some(Kind::Part),
-        'A' => Some(Kind::All),
-        'O' => Some(Kind::Any),
-        'V' => Some(Kind::Vote),
+        'A' => Some(Kind::And),
+        'O' => Some(Kind::Or),
+        'V' => Some(Kind::AtLeast),
         'T' => Some(Kind::Always),
         'F' => Some(Kind::Never),
         _ => None,

@@ -70,9 +70,9 @@ fn body(walk: &mut Fields, draft: &Draft, kind: Kind, line: usize) -> Result<Lin
 {
     match kind {
         Kind::Part => part_body(walk, line),
-        Kind::All => all_body(walk, draft, line),
-        Kind::Any => any_body(walk, draft, line),
-        Kind::Vote => vote_body(walk, draft, line),
+        Kind::And => all_body(walk, draft, line),
+        Kind::Or => any_body(walk, draft, line),
+        Kind::AtLeast => vote_body(walk, draft, line),
         Kind::Always => bare_body(walk, line, 0),
         Kind::Never => bare_body(walk, line, 1),
     }

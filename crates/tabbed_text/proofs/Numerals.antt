@@ -15,7 +15,7 @@ use Rattle.std.proofs.shelf.Numerals.{Numerals, numerals-by-fold}
 use Rattle.std.proofs.shelf.Tests.{and-parts, and-from, cond-true, le-leb, leb-true}
 use Rattle.std.proofs.shelf.Ways.{tells}
 use Rattle.tabbed_text.proofs.Chains.{cond-some}
-use Rattle.tabbed_text.specs.Fields.{parts}
+use Rattle.tabbed_text.specs.Fields.{separates}
 use Rattle.tabbed_text.specs.Numbers.{is-digit, all-digits, numeral, value-from, value, number-in}
 
 own : Numerals (λ ds. all-digits ds ≡ true) value
@@ -64,12 +64,12 @@ written-number low high n small lo hi =
     ∙ ap Some v
 
 -- a number has no tab and no byte 10
-digits-unparted : (bs : List ℕ) → all-digits bs ≡ true → All (λ b. parts b ≡ false) bs
+digits-unparted : (bs : List ℕ) → all-digits bs ≡ true → All (λ b. separates b ≡ false) bs
 digits-unparted [] e = tt
 digits-unparted (b ∷ bs) e =
     let p = and-parts (is-digit b) (all-digits bs) e in
     let d = p .0 in
     (grind (arith, tells), digits-unparted bs (p .1))
 
-pub decimal-unparted : (n : ℕ) → n < 2 ^ 64 → All (λ b. parts b ≡ false) (decimal n)
+pub decimal-unparted : (n : ℕ) → n < 2 ^ 64 → All (λ b. separates b ≡ false) (decimal n)
 decimal-unparted n h = digits-unparted (decimal n) (digits-decimal own n h)

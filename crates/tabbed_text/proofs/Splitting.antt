@@ -11,7 +11,7 @@ use Rattle.std.specs.shelf.Lists.{All, joined}
 use Rattle.std.proofs.shelf.Elements.{all-append, all-weaker}
 use Rattle.std.proofs.shelf.Lists.{append-nil, length-map}
 use Rattle.std.proofs.shelf.Tests.{cond-both, cond-true, cond-false, eq-eqb, eqb-true, eqb-false, or-parts}
-use Rattle.tabbed_text.specs.Fields.{prepend, pieces, ended, tabbed, lines-of, parts}
+use Rattle.tabbed_text.specs.Fields.{prepend, pieces, ended, tabbed, lines-of, separates}
 
 -- ---- fields
 
@@ -60,14 +60,14 @@ ended-more : (s : ℕ) (f rest : List ℕ) → All (λ b. eqb b s ≡ false) f �
 ended-more s [] rest free = cond-true (eqb s s) _ _ (eq-eqb s s refl)
 ended-more s (b ∷ f) rest free = cond-false (eqb b s) _ _ (free .0) ∙ ap (prepend b) (ended-more s f rest (free .1))
 
-no-tab : (b : ℕ) → parts b ≡ false → eqb b 9 ≡ false
+no-tab : (b : ℕ) → separates b ≡ false → eqb b 9 ≡ false
 no-tab b e = or-parts (eqb b 9) (eqb b 10) e .0
 
-no-end : (b : ℕ) → parts b ≡ false → eqb b 10 ≡ false
+no-end : (b : ℕ) → separates b ≡ false → eqb b 10 ≡ false
 no-end b e = or-parts (eqb b 9) (eqb b 10) e .1
 
 abbrev Unparted : List ℕ → Type 0
-Unparted f = All (λ b. parts b ≡ false) f
+Unparted f = All (λ b. separates b ≡ false) f
 
 abbrev Unended : List ℕ → Type 0
 Unended f = All (λ b. eqb b 10 ≡ false) f
@@ -83,7 +83,7 @@ tabbed-unended (f ∷ fs) free =
     all-append (λ b. eqb b 10 ≡ false) f _ (all-weaker _ _ no-end f (free .0)) (joined-unended fs (free .1))
 
 -- a line that is written in front of a text is its first line
-pub lines-cons : (fs : List (List ℕ)) (rest : List ℕ) → 0 < length fs → All (λ f. All (λ b. parts b ≡ false) f) fs → lines-of (tabbed fs ++ (10 ∷ rest)) ≡ fs ∷ lines-of rest
+pub lines-cons : (fs : List (List ℕ)) (rest : List ℕ) → 0 < length fs → All (λ f. All (λ b. separates b ≡ false) f) fs → lines-of (tabbed fs ++ (10 ∷ rest)) ≡ fs ∷ lines-of rest
 lines-cons fs rest some free =
     ap (map (pieces 9)) (ended-more 10 (tabbed fs) rest (tabbed-unended fs free))
     ∙ ap (λ gs. gs ∷ lines-of rest) (pieces-tabbed fs some (all-weaker _ _ (λ f. all-weaker _ _ no-tab f) fs free))

@@ -8,11 +8,11 @@ use lib.Dec.{eqb}
 use lib.ListN.{length, getD, drop, take}
 use Rattle.std.proofs.shelf.Lists.{drop-drop, at-drop-more, at-drop-all, drop-more}
 use Rattle.std.proofs.shelf.Tests.{cond-both, cond-true, cond-false, eq-eqb, ne-eqb, eqb-true}
-use Rattle.tabbed_text.specs.Fields.{up-to, after, prepend, pieces, fields-of, parts, field-len, more-fields, Field-of, Tab-first, Ends-field}
+use Rattle.tabbed_text.specs.Fields.{up-to, after, prepend, pieces, fields-of, separates, field-len, more-fields, Field-of, Tab-first, Ends-field}
 
 -- ---- how long a field is
 
-pub len-step : (bs : List ℕ) (i : ℕ) → i < length bs → field-len (drop i bs) ≡ cond (parts (getD bs i 0)) 0 (suc (field-len (drop (i + 1) bs)))
+pub len-step : (bs : List ℕ) (i : ℕ) → i < length bs → field-len (drop i bs) ≡ cond (separates (getD bs i 0)) 0 (suc (field-len (drop (i + 1) bs)))
 len-step bs i h = at-drop-more field-len bs i 0 h
 
 pub len-end : (bs : List ℕ) (i : ℕ) → length bs ≤ i → field-len (drop i bs) ≡ 0
@@ -78,14 +78,14 @@ pub after-more : (xs : List ℕ) → after 10 (drop (field-len xs) xs) ≡ after
 after-more [] = refl
 after-more (b ∷ bs) = after-cons b bs (eqb b 9) (eqb b 10) refl refl (after-more bs)
 
-field-cons : (b : ℕ) (bs : List ℕ) (p : Bool) → parts b ≡ p → Field-of bs (take (field-len bs) bs) (drop (field-len bs) bs)
+field-cons : (b : ℕ) (bs : List ℕ) (p : Bool) → separates b ≡ p → Field-of bs (take (field-len bs) bs) (drop (field-len bs) bs)
     → Field-of (b ∷ bs) (take (field-len (b ∷ bs)) (b ∷ bs)) (drop (field-len (b ∷ bs)) (b ∷ bs))
 field-cons b bs true e h = simp e (record { whole = refl; unparted = tt; parted-after = e })
 field-cons b bs false e h = simp e (record { whole = ap (λ xs. b ∷ xs) (h .whole); unparted = (e, h .unparted); parted-after = h .parted-after })
 
 pub field-here : (xs : List ℕ) → Field-of xs (take (field-len xs) xs) (drop (field-len xs) xs)
 field-here [] = record { whole = refl; unparted = tt; parted-after = refl }
-field-here (b ∷ bs) = field-cons b bs (parts b) refl (field-here bs)
+field-here (b ∷ bs) = field-cons b bs (separates b) refl (field-here bs)
 
 module _ (bs : List ℕ) (at end : ℕ) (is : end ≡ at + field-len (drop at bs)) where
   end-is : drop (field-len (drop at bs)) (drop at bs) ≡ drop end bs

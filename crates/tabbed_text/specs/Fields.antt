@@ -47,8 +47,8 @@ abbrev pub lines-of : List ℕ → List (List (List ℕ))
 lines-of bs = map (pieces 9) (ended 10 bs)
 
 -- whether a byte ends a field
-abbrev pub parts : ℕ → Bool
-parts b = eqb b 9 || eqb b 10
+abbrev pub separates : ℕ → Bool
+separates b = eqb b 9 || eqb b 10
 
 -- the fields that follow in the line, where a field has just ended
 abbrev pub more-fields : List ℕ → List (List ℕ)
@@ -58,17 +58,17 @@ more-fields (b ∷ bs) = cond (eqb b 9) (fields-of bs) []
 -- whether a field ends where these bytes begin
 abbrev pub parted : List ℕ → Bool
 parted [] = true
-parted (b ∷ bs) = parts b
+parted (b ∷ bs) = separates b
 
 -- how many bytes stand before the first tab or byte 10
 abbrev pub field-len : List ℕ → ℕ
 field-len [] = 0
-field-len (b ∷ bs) = cond (parts b) 0 (suc (field-len bs))
+field-len (b ∷ bs) = cond (separates b) 0 (suc (field-len bs))
 
 -- f is the bytes of xs up to the next tab, byte 10 or the end, and ys is all that follows it
 pub record Field-of (xs f ys : List ℕ) : Type 0 where
   pub whole : xs ≡ f ++ ys
-  pub unparted : All (λ b. parts b ≡ false) f
+  pub unparted : All (λ b. separates b ≡ false) f
   pub parted-after : parted ys ≡ true
 
 -- no field follows in the line, and the walk stays
@@ -79,7 +79,7 @@ pub record No-field (xs ys : List ℕ) : Type 0 where
 -- a tab, then the field f, and ys is all that follows it
 pub record Next-field (xs f ys : List ℕ) : Type 0 where
   pub whole : xs ≡ 9 ∷ (f ++ ys)
-  pub unparted : All (λ b. parts b ≡ false) f
+  pub unparted : All (λ b. separates b ≡ false) f
   pub parted-after : parted ys ≡ true
   pub leads : more-fields xs ≡ f ∷ more-fields ys
 

@@ -6,12 +6,12 @@ ghost use Prim.Native.Nat.{_+_, _<_, _≤_};
 ghost use lib.Dec.{eqb};
 ghost use lib.ListN.{length, drop};
 ghost use Rattle.std.specs.Options.{Cases};
-ghost use Rattle.tabbed_text.specs.Fields.{parts, fields-of, more-fields, after, Field-of, No-field, Next-field, Tab-first, Ends-field};
+ghost use Rattle.tabbed_text.specs.Fields.{separates, fields-of, more-fields, after, Field-of, No-field, Next-field, Tab-first, Ends-field};
 ghost use Rattle.tabbed_text.specs.Remains.{remains};
 use crate::fields::Fields;
 
-fn is_parting(b: u8) -> bool
-    ensures { λ r. ⌜ r ≡ parts b ⌝ }
+fn is_separator(b: u8) -> bool
+    ensures { λ r. ⌜ r ≡ separates b ⌝ }
 {
     b == b'\t' || b == b'\n'
 }
@@ -22,7 +22,7 @@ fn field_end(bytes: &[u8], at: usize) -> usize
     ensures { λ r. ⌜ Ends-field (now (bytes .entry)) at r ⌝ }
 {
     for i in at..bytes.len() {
-        if is_parting(bytes[i]) {
+        if is_separator(bytes[i]) {
             return i;
         }
     }

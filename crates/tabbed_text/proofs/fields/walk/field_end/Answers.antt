@@ -7,18 +7,18 @@ use Rattle.tabbed_text.specs.Fields.{field-len}
 use Rattle.tabbed_text.proofs.Walking.{len-step, len-end, ends-field}
 use Rattle.tabbed_text.proofs.fields.walk.field_end.Needs as need
 
-pub returns-then-is-parting : need.returns-then-is-parting
-returns-then-is-parting c =
+pub returns-then-is-separator : need.returns-then-is-separator
+returns-then-is-separator c =
     let bs = c .args .bytes .now in
     let i = c .loop-i .i in
-    let none = len-step bs i (c .loop-i-test .taken) ∙ ap (λ b. cond b 0 (suc (field-len (drop (i + 1) bs)))) (sym (c .if-is-parting .ensures tt)) in
+    let none = len-step bs i (c .loop-i-test .taken) ∙ ap (λ b. cond b 0 (suc (field-len (drop (i + 1) bs)))) (sym (c .if-is-separator .ensures tt)) in
     ends-field bs (c .args .at) i (omega (arith, none, c .loop-i .inv)) (omega arith) (omega arith)
 
 pub loop-i-again : need.loop-i-again
 loop-i-again c =
     let bs = c .args .bytes .now in
     let i = c .loop-i .i in
-    let more = len-step bs i (c .loop-i-test .taken) ∙ ap (λ b. cond b 0 (suc (field-len (drop (i + 1) bs)))) (sym (c .if-is-parting .ensures tt)) in
+    let more = len-step bs i (c .loop-i-test .taken) ∙ ap (λ b. cond b 0 (suc (field-len (drop (i + 1) bs)))) (sym (c .if-is-separator .ensures tt)) in
     omega (arith, more, c .loop-i .inv)
 
 pub returns : need.returns
