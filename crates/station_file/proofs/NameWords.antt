@@ -1,12 +1,12 @@
 -- Names as words.
 use mathlib.Core.Path.{_≡_, sym, ap, subst, _∙_}
-use mathlib.Core.Bool.{true, false, _&&_}
+use mathlib.Core.Bool.{true, _&&_}
 use mathlib.Core.List.{List, [], _∷_}
 use Prim.Native.Nat.{ℕ, suc, _+_, _-_, _*_, _^_, _<_, _≤_, min}
 use native.Mathlib.Omega.{arith}
 use native.Mathlib.Nat.{pow-suc, pow-le-pow-right}
 use lib.ListN.{length, getD, drop, take, length-drop}
-use Rattle.std.proofs.shelf.Tests.{cond-true, cond-false, cases-lt}
+use Rattle.std.proofs.shelf.Tests.{cond-true, cases-lt}
 use Rattle.std.proofs.shelf.Lists.{at-drop-more, at-drop-all, getD-drop, take-all, drop-all}
 use mathlib.Core.Logic.{⊎-elim}
 use Rattle.std.specs.declared.option.Option.the-variants.{Some, None}
@@ -33,9 +33,6 @@ pack-room bs i small few lo hi =
     let k : length (drop i bs) ≤ 7 = simp length-drop (omega arith) in
     let p : packed (drop i bs) < 256 ^ length (drop i bs) = pack-below (drop i bs) (λ k. subst (λ b. b < 256) (sym (getD-drop i bs k 0)) (small (i + k))) in
     omega (arith, p, pow-le-pow-right {n = 256} (omega arith) {i = length (drop i bs)} {j = 7} k)
-
-pub no-name : (bs : List ℕ) → well-named bs ≡ false → None ≡ name-from bs
-no-name bs e = sym (cond-false (well-named bs) (Some (name-of bs)) None e)
 
 pub a-name : (bs : List ℕ) → well-named bs ≡ true → Some (name-of bs) ≡ name-from bs
 a-name bs e = sym (cond-true (well-named bs) (Some (name-of bs)) None e)

@@ -6,7 +6,7 @@ use Prim.Native.Nat.{ℕ, _+_, _-_, _*_, _<_, _≤_}
 use native.Mathlib.Omega.{arith}
 use lib.Dec.{eqb, leb}
 use lib.ListN.{length, getD, drop}
-use Rattle.std.proofs.shelf.Tests.{and-from, and-left, and-right, or-from, le-leb, lt-leb, eq-eqb, ne-eqb, cond-false, not-from-true}
+use Rattle.std.proofs.shelf.Tests.{and-from, and-left, and-right, le-leb, lt-leb, cond-false}
 use Rattle.std.proofs.shelf.Lists.{at-drop-more, at-drop-all}
 use Rattle.std.proofs.shelf.Ways.{tells}
 use Rattle.std.specs.declared.option.Option.the-variants.{Some, None}
@@ -27,15 +27,6 @@ module _ (low high : ℕ) where
 
   none-at : (bs : List ℕ) → numeral bs ≡ false → None ≡ number-in low high bs
   none-at bs e = none bs (and-left _ _ (and-left _ _ e))
-
-  pub none-empty : (bs : List ℕ) → length bs ≡ 0 → None ≡ number-in low high bs
-  none-empty [] e = refl
-  none-empty (b ∷ bs) e = let z : ⊥ = omega arith in absurd z
-
-  pub none-zero : (bs : List ℕ) → getD bs 0 0 ≡ 48 → 1 < length bs → None ≡ number-in low high bs
-  none-zero [] e h = refl
-  none-zero (b ∷ bs) e h =
-      none-at (b ∷ bs) (and-right (all-digits (b ∷ bs)) _ (or-from (not (eqb b 48)) _ (not-from-true (eqb b 48) (eq-eqb b 48 e)) (ne-eqb (length bs) 0 (λ q. omega arith))))
 
   pub none-digits : (bs : List ℕ) → all-digits bs ≡ false → None ≡ number-in low high bs
   none-digits [] e = refl

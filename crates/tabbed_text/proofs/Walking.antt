@@ -29,9 +29,6 @@ some-piece s [] = omega arith
 some-piece s (b ∷ bs) =
     cond-both (eqb b s) ([] ∷ pieces s bs) (prepend b (pieces s bs)) (λ fs. 0 < length fs) (λ _. omega arith) (λ _. omega (arith, same-count b (pieces s bs) (some-piece s bs), some-piece s bs))
 
-pub some-field : (bs : List ℕ) → 0 < length (fields-of bs)
-some-field bs = some-piece 9 (up-to 10 bs)
-
 count-end-cons : (b : ℕ) (bs : List ℕ) → eqb b 10 ≡ true → length (fields-of (b ∷ bs)) ≡ 1
 count-end-cons b bs f = simp f
 

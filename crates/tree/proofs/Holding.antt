@@ -10,8 +10,7 @@ use lib.Count.{ones}
 use lib.Dec.{leb, ltb}
 use lib.ListN.{length}
 use Rattle.std.proofs.shelf.Tests.{leb-true, leb-false, le-leb, lt-leb, ltb-true, cases-bool, and-parts, both-ways}
-use Rattle.tree.specs.Holding.{the-line, told, parts-of, holds-by, line-holds, holding, Holding-laws}
-use Rattle.tree.specs.Lines.{part-line}
+use Rattle.tree.specs.Holding.{the-line, told, holds-by, line-holds, holding, Holding-laws}
 use Rattle.tree.specs.Rules.{gate-ok, line-ok, lines-ok, names-ok, names-of, keeps-rules}
 use Rattle.tree.specs.Sets.{has, _⊆_, Below}
 use Rattle.tree.specs.declared.line.Part.{Part}
@@ -58,20 +57,6 @@ not-both l p g e h = let z : _≡_ {A = ℕ} 0 1 = cc in omega arith
 
 pub part-in : (t : List Row) (i : ℕ) (p : Part) → the-line t i ≡ line.Part p → i < length t
 part-in t i p e = ⊎-elim (λ h. leb-true (suc i) (length t) h) (λ h. absurd (not-both (the-line t i) p _ e (past t i (let x = leb-false (suc i) (length t) h in omega arith)))) (cases-bool (leb (suc i) (length t)))
-
--- ---- the parts
-
-pub parts-are : (t : List Row) (i : ℕ) (p : Part) → the-line t i ≡ line.Part p → has (parts-of t) i ≡ true
-unfolding parts-of
-parts-are t i p e = told-is (λ i below. part-line (the-line t i)) (length t) i (part-in t i p e) ∙ ap part-line e
-
-pub are-parts : (t : List Row) (i : ℕ) → has (parts-of t) i ≡ true → part-line (the-line t i) ≡ true
-unfolding parts-of
-are-parts t i e = sym (told-is (λ i below. part-line (the-line t i)) (length t) i (told-below (λ i below. part-line (the-line t i)) (length t) i e)) ∙ e
-
-pub parts-below : (t : List Row) → Below (length t) (parts-of t)
-unfolding parts-of
-parts-below t = told-below (λ i below. part-line (the-line t i)) (length t)
 
 -- ---- the law of each line
 

@@ -60,9 +60,6 @@ other : (a b : Bool) → differs a b ≡ true → a ≡ false → b ≡ true
 other true b e h = absurd (both-ways true h refl)
 other false b e h = e
 
-differing : (a b : Bool) → a ≡ true → b ≡ false → differs a b ≡ true
-differing a b h k = ap₂ differs h k
-
 not-differing : (a b : Bool) → differs a b ≡ true → a ≡ b → ⊥
 not-differing true b e h = both-ways (not b) (ap not (sym h)) e
 not-differing false b e h = both-ways b (sym h) e

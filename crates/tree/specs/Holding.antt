@@ -9,7 +9,6 @@ use lib.Bits.{bitAnd, bitOr}
 use lib.Count.{ones}
 use lib.Dec.{leb}
 use lib.ListN.{length}
-use Rattle.tree.specs.Lines.{part-line}
 use Rattle.tree.specs.Sets.{has, _⊆_}
 use Rattle.tree.specs.declared.line.Part.{Part}
 use Rattle.tree.specs.declared.line.Gate.{Gate}
@@ -30,10 +29,6 @@ top rows = length rows - 1
 unfoldable pub told : (ℕ → ℕ → Bool) → ℕ → ℕ
 told f zero = 0
 told f (suc n) = bitOr (told f n) (cond (f n (told f n)) (2 ^ n) 0)
-
--- the lines that are parts
-unfoldable pub parts-of : List Row → ℕ
-parts-of rows = told (λ i below. part-line (the-line rows i)) (length rows)
 
 -- whether line i holds for the set s of failed parts, by the lines below it that hold
 abbrev pub holds-by : Line → ℕ → ℕ → ℕ → Bool
