@@ -15,16 +15,6 @@ use Rattle.tree.specs.declared.line.Row.{Row}
 use Rattle.kinds.specs.declared.fixing.Fixing.{Fixing}
 use Rattle.kinds.specs.declared.fixing.State.{State}
 use Rattle.kinds.specs.declared.fixing.State.the-variants.{Failed, Sound}
-use Rattle.kinds.specs.declared.fixing.FixingCause.{FixingCause}
-use Rattle.kinds.specs.declared.fixing.FixingCause.the-variants.{NotPart}
-
--- the number of a refusal
-abbrev pub fixing-number : FixingCause → ℕ
-fixing-number NotPart = 14
-
--- the letter of the layer where it arose: X
-abbrev pub fixing-layer : ℕ
-fixing-layer = 88
 
 -- a gate without children that needs this many
 abbrev pub childless : ℕ → Line
@@ -51,8 +41,8 @@ relined (r ∷ rs) (suc i) l = r ∷ relined rs i l
 abbrev pub fixed-rows : List Row → ℕ → State → List Row
 fixed-rows rows i state = cond (is-part (line-at rows i)) (relined rows i (fixed-line state)) rows
 
-abbrev pub fix-answer : List Row → ℕ → Result Unit FixingCause
-fix-answer rows i = cond (is-part (line-at rows i)) (Ok tt) (Err NotPart)
+abbrev pub fix-answer : List Row → ℕ → Result Unit (ℕ × ℕ × ℕ × ℕ)
+fix-answer rows i = cond (is-part (line-at rows i)) (Ok tt) (Err (14, 88, 0, 0))
 
 -- the set s with line i, where that has failed, and without it, where it is sound
 abbrev pub in-state : State → ℕ → ℕ → ℕ

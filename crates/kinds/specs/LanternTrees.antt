@@ -1,4 +1,4 @@
--- What a lantern means, what `Lantern::new` answers, and the number of its refusal.
+-- What a lantern means, what `Lantern::new` answers.
 use mathlib.Core.Bool.{Bool, cond}
 use mathlib.Core.List.{List}
 use Prim.Native.Nat.{ℕ}
@@ -9,8 +9,6 @@ use Rattle.tree.specs.declared.line.Part.{Part}
 use Rattle.tree.specs.declared.line.Row.{Row}
 use Rattle.kinds.specs.Lanterns.{in-limits, lantern-rows, dark-tiers}
 use Rattle.kinds.specs.declared.lantern.Lantern.{Lantern}
-use Rattle.kinds.specs.declared.lantern.LanternCause.{LanternCause}
-use Rattle.kinds.specs.declared.lantern.LanternCause.the-variants.{OutOfLimits}
 
 abbrev pub rows-of : Lantern → List Row
 rows-of l = lantern-rows (l .tiers) (l .lamps) (l .«lamp_need») (l .«tier_need») (l .part)
@@ -22,14 +20,6 @@ dark l s = leb (l .«tier_need») (dark-tiers (l .tiers) (l .lamps) (l .«lamp_n
 abbrev pub values-of : Lantern → ℕ × ℕ × ℕ × ℕ × Part
 values-of l = (l .tiers, l .lamps, l .«lamp_need», l .«tier_need», l .part)
 
--- the number of a refusal
-abbrev pub lantern-number : LanternCause → ℕ
-lantern-number OutOfLimits = 16
-
--- T, the letter of the layer
-abbrev pub lantern-layer : ℕ
-lantern-layer = 84
-
--- the values of the lantern, where they keep the limits, or the number of the refusal
-abbrev pub asked-lantern : (t p q r : ℕ) → Part → Result (ℕ × ℕ × ℕ × ℕ × Part) ℕ
-asked-lantern t p q r part = cond (in-limits t p q r part) (Ok (t, p, q, r, part)) (Err 16)
+-- the values of the lantern, where they keep the limits, or what the refusal says
+abbrev pub asked-lantern : (t p q r : ℕ) → Part → Result (ℕ × ℕ × ℕ × ℕ × Part) (ℕ × ℕ × ℕ × ℕ)
+asked-lantern t p q r part = cond (in-limits t p q r part) (Ok (t, p, q, r, part)) (Err (16, 84, 0, 0))

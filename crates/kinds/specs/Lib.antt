@@ -1,3 +1,4 @@
+pub mod Faults
 pub mod Lanterns
 pub mod LanternTrees
 pub mod Fixings

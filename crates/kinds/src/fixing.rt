@@ -3,12 +3,16 @@ ghost use mathlib.Core.Path.{_≡_};
 ghost use mathlib.Core.Bool.{true};
 ghost use Prim.Native.Nat.{ℕ};
 ghost use lib.ListN.{length};
-ghost use Rattle.std.specs.Results.{Cases};
+ghost use Rattle.std.specs.Results.{mapped};
 ghost use Rattle.std.specs.declared.result.Result.the-variants.{Ok};
 ghost use Rattle.tree.specs.Lines.{line-at, name-at};
 ghost use Rattle.tree.specs.Holding.{holding};
-ghost use Rattle.kinds.specs.Fixings.{fixed-over, overlaid-line, is-part, fixed-rows, fix-answer, fixing-number, in-state};
+ghost use Rattle.kinds.specs.Faults.{told};
+ghost use Rattle.kinds.specs.Fixings.{fixed-over, overlaid-line, is-part, fixed-rows, fix-answer, in-state};
 ghost use Rattle.kinds.specs.declared.fixing.State.the-variants as fixed;
+use crate::faults::FixingCause;
+use crate::faults::TreeFault;
+use crate::faults::TreeLayer;
 use tree::line::Gate;
 use tree::line::Line;
 use tree::line::Name;
@@ -21,12 +25,6 @@ use tree::station_tree::Tree;
 pub enum State {
     Failed,
     Sound,
-}
-
-// Why a line is not fixed.
-#[derive(Clone, Copy)]
-pub enum FixingCause {
-    NotPart,
 }
 
 // The lines fixed here, as sets, and the tree below.
@@ -54,6 +52,16 @@ pub impl<T: Tree> Tree for Fixing<T> as FixingTree {
     }
 }
 
+fn not_part() -> TreeFault
+    ensures { λ r. ⌜ told r ≡ (14, 88, 0, 0) ⌝ }
+{
+    TreeFault {
+        line: 0,
+        field: 0,
+        layer: TreeLayer::Fixing(FixingCause::NotPart),
+    }
+}
+
 impl<T: Tree> Fixing<T> {
     // Nothing is fixed at first.
     pub fn new(inner: T) -> Self
@@ -65,14 +73,13 @@ impl<T: Tree> Fixing<T> {
     // Fixes a line that is still a part here; refuses any other, and then changes nothing. From then on a line holds for
     // a set of failed parts as it held before for that set with the part in it, if it is fixed as failed, and without
     // it, if as sound.
-    pub fn fix(&mut self, line: usize, state: State) -> Result<(), FixingCause>
-        ensures refuses_all_but_parts { λ r. ⌜ r ≡ fix-answer (fixed-over (T·Tree .meaning) (now (self .entry))) line ⌝ }
-        ensures refuses_by_number { λ r. ⌜ Cases r (λ _. Unit {0}) (λ e. fixing-number e ≡ 14) ⌝ }
+    pub fn fix(&mut self, line: usize, state: State) -> Result<(), TreeFault>
+        ensures refuses_all_but_parts { λ r. ⌜ mapped (λ u. u) told r ≡ fix-answer (fixed-over (T·Tree .meaning) (now (self .entry))) line ⌝ }
         ensures fixes_that_part { λ _. ⌜ fixed-over (T·Tree .meaning) (now (self .exit)) ≡ fixed-rows (fixed-over (T·Tree .meaning) (now (self .entry))) line state ⌝ }
         ensures changes_holding { λ r. ⌜ (r ≡ Ok tt → (s : ℕ) → holding (fixed-over (T·Tree .meaning) (now (self .exit))) s ≡ holding (fixed-over (T·Tree .meaning) (now (self .entry))) (in-state state line s)) ⌝ }
     {
         if !self.has_part(line) {
-            return Err(FixingCause::NotPart);
+            return Err(not_part());
         }
         match state {
             State::Failed => self.mark_failed(line),

@@ -23,9 +23,3 @@ pub struct Lantern {
     part: Part,
     ghost within: { in-limits tiers lamps «lamp_need» «tier_need» part ≡ true },
 }
-
-// Why a lantern is refused.
-#[derive(Clone, Copy)]
-pub enum LanternCause {
-    OutOfLimits,
-}

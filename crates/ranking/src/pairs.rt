@@ -5,12 +5,13 @@ use crate::kinds::Price;
 use crate::kinds::Rarity;
 use crate::kinds::Size;
 use crate::order::Ranking;
+use std::marker::PhantomData;
 use tree::line::Part;
 
 // The upper ranking decides, and where it finds two weights the same the lower.
 pub struct Pair<U: Ranking, L: Ranking> {
-    upper: U,
-    lower: L,
+    upper: PhantomData<U>,
+    lower: PhantomData<L>,
 }
 
 pub impl<U: Ranking, L: Ranking> Ranking for Pair<U, L> as PairRanking {

@@ -1,19 +1,19 @@
 -- Sets as words of a width: how many lines, what is within what, and the highest line, by the machine's operations.
 use mathlib.Core.Path.{_≡_, refl, sym, ap, subst, _∙_}
-use mathlib.Core.Bool.{true, false, not}
+use mathlib.Core.Bool.{Bool, true, false, not, cond, _&&_}
 use mathlib.Core.Logic.{_≢_, _⊎_, inl, inr, ⊎-elim}
 use Prim.Native.Nat.{ℕ, zero, suc, _+_, _-_, _/_, _%_, _^_, _<_, _≤_}
 use native.Mathlib.Omega.{arith}
 use lib.Arith.{bin-ind}
 use lib.Bits.{bitAnd}
 use lib.Count.{ones, leadingZeros, leading-top}
-use lib.Dec.{eqb}
+use lib.Dec.{eqb, ltb}
 use lib.Pow.{pow-mono}
 use Rattle.std.proofs.shelf.Tests.{eqb-true, eqb-false, eq-eqb, both-ways, cases-bool, cases-order}
 use Rattle.std.proofs.shelf.Ways.{tells}
 use Rattle.tree.specs.Sets.{has, _⊆_, within, Counts, Tells, Highest}
 use Rattle.tree.proofs.Holding.{lt-below}
-use Rattle.tree.proofs.Sets.{same-test, has-zero, has-suc, has-none, has-le, below-lt, empty, in-meet, meet-left, meet-right, within-sub, sub-within, ones-none, one-more}
+use Rattle.tree.proofs.Sets.{same-test, has-zero, has-suc, has-none, has-pow, has-le, below-lt, empty, in-meet, meet-left, meet-right, within-sub, sub-within, ones-none, one-more}
 
 pub ones-count : Counts ones
 ones-count = record { none = ones-none; one-more = one-more }
@@ -79,3 +79,13 @@ highest-word w s g p h e =
     one f f′ (inl l) q = l ∙ q
     one f f′ (inr (inl l)) q = absurd (f l)
     one f f′ (inr (inr l)) q = absurd (f′ l)
+
+-- one line alone, where the width has it
+pub has-alone : (w i j : ℕ) → has (cond (ltb i w) (2 ^ i) 0) j ≡ (eqb j i && ltb i w)
+has-alone w i j = go (ltb i w) (eqb j i) (has-pow i j)
+  where
+    go : (t e : Bool) → has (2 ^ i) j ≡ e → has (cond t (2 ^ i) 0) j ≡ (e && t)
+    go true true h = h
+    go true false h = h
+    go false true h = has-none j
+    go false false h = has-none j

@@ -1,6 +1,6 @@
 // A set of lines is a 64-bit word: bit i stands for line i.
 ghost use mathlib.Core.Path.{_≡_};
-ghost use mathlib.Core.Bool.{Bool, false, true, _||_};
+ghost use mathlib.Core.Bool.{Bool, false, true, _&&_, _||_};
 ghost use mathlib.Core.Logic.{_≢_};
 ghost use Prim.Native.Nat.{ℕ, _<_, _^_};
 ghost use lib.Bits.{bitOr};
@@ -32,11 +32,26 @@ pub fn has(set: u64, i: usize) -> bool
     has_place(i) && bit(set, i)
 }
 
-// The set of line i alone; no word has a line past the 64th.
-pub fn alone(i: usize) -> u64
-    ensures is_one_line { λ r. ⌜ r ≡ alone i ⌝ }
+// A word has no bit for a line from the 64th on.
+fn bit_of(i: usize) -> u64
+    ensures { λ r. ⌜ r ≡ alone i ⌝ }
 {
     if i < 64 { 1 << i } else { 0 }
+}
+
+fn one_line(i: usize) -> u64
+    ensures value { λ r. ⌜ r ≡ alone i ⌝ }
+    ensures lines { λ r. ⌜ ((j : ℕ) → has-line r j ≡ (eqb j i && ltb i 64)) ⌝ }
+{
+    bit_of(i)
+}
+
+// The set of line i alone; empty where no word has that line.
+pub fn alone(i: usize) -> u64
+    ensures is_one_line { λ r. ⌜ r ≡ alone i ⌝ }
+    ensures has_that_line_only { λ r. ⌜ ((j : ℕ) → has-line r j ≡ (eqb j i && ltb i 64)) ⌝ }
+{
+    one_line(i)
 }
 
 fn ones_of(set: u64) -> u32

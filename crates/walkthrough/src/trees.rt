@@ -1,6 +1,8 @@
 // Kinds of station tree.
 use crate::shown::line_text;
 use crate::shown::name_text;
+use kinds::faults::TreeFault;
+use kinds::faults::TreeLayer;
 use kinds::fixing::Fixing;
 use kinds::fixing::FixingTree;
 use kinds::fixing::State;
@@ -24,6 +26,14 @@ pub const LAMP: Part = Part {
 
 const STATION: &[u8] =
     b"LAMP-1\tE\t2000\t3\t100\t12500\nLAMP-2\tE\t2000\t3\t0\t9000\nMAINS\tE\t1200\t1\t0\t0\nDARK\tV\t2\tLAMP-1\tLAMP-2\tMAINS\n";
+
+// The number and the layer of a refusal.
+fn refusal(fault: TreeFault) -> &'static str {
+    match fault.layer {
+        TreeLayer::Fixing(_) => "refused 14, layer X",
+        TreeLayer::Lantern(_) => "refused 16, layer T",
+    }
+}
 
 // Asks a tree for every line, and for one past the last.
 fn tell<T: Tree>(rt: &LibcRuntime, tree: &T) -> Result<(), AnyError> {
@@ -54,23 +64,28 @@ fn fixed<T: Tree>(
     };
     match tree.fix(line, state) {
         Ok(()) => println!(rt, "fix line {line} as {word}: done"),
-        Err(_) => println!(rt, "fix line {line} as {word}: refused 14, layer X"),
+        Err(fault) => {
+            let why = refusal(fault);
+            println!(rt, "fix line {line} as {word}: {why}")
+        }
     }
 }
 
+fn lit(rt: &LibcRuntime, tiers: u32, lamps: u32, lamp_need: u32) -> io::Result<()> {
+    let made = match Lantern::new(tiers, lamps, lamp_need, 1, LAMP) {
+        Ok(_) => "made",
+        Err(fault) => refusal(fault),
+    };
+    println!(
+        rt,
+        "lantern of {tiers} tiers of {lamps} lamps, needs {lamp_need}: {made}"
+    )
+}
+
 pub fn light_lantern(rt: &LibcRuntime) -> Result<(), AnyError> {
-    if Lantern::new(7, 8, 1, 1, LAMP).is_ok() {
-        println!(rt, "lantern of 7 tiers of 8 lamps, 64 lines: made")?;
-    }
-    if Lantern::new(8, 7, 1, 1, LAMP).is_err() {
-        println!(
-            rt,
-            "lantern of 8 tiers of 7 lamps, 65 lines: refused 16, layer T"
-        )?;
-    }
-    if Lantern::new(1, 2, 3, 1, LAMP).is_err() {
-        println!(rt, "lantern that needs 3 of 2 lamps: refused 16, layer T")?;
-    }
+    lit(rt, 7, 8, 1)?;
+    lit(rt, 8, 7, 1)?;
+    lit(rt, 1, 2, 3)?;
     let Ok(lantern) = Lantern::new(2, 3, 2, 1, LAMP) else {
         return Err("the lantern is within its limits".into());
     };

@@ -5,10 +5,13 @@ ghost use Prim.Native.Nat.{_+_, _*_};
 ghost use lib.Dec.{leb};
 ghost use Rattle.std.specs.Results.{mapped};
 ghost use Rattle.tree.specs.Rules.{part-ok};
+ghost use Rattle.kinds.specs.Faults.{told};
 ghost use Rattle.kinds.specs.Lanterns.{need-ok, in-limits};
-ghost use Rattle.kinds.specs.LanternTrees.{values-of, lantern-number, asked-lantern};
+ghost use Rattle.kinds.specs.LanternTrees.{values-of, asked-lantern};
+use crate::faults::LanternCause;
+use crate::faults::TreeFault;
+use crate::faults::TreeLayer;
 use crate::lantern::Lantern;
-use crate::lantern::LanternCause;
 use tree::line::Part;
 
 impl Lantern {
@@ -20,13 +23,17 @@ impl Lantern {
         lamp_need: u32,
         tier_need: u32,
         part: Part,
-    ) -> Result<Lantern, LanternCause>
-        ensures made_within_limits_only { λ r. ⌜ mapped values-of lantern-number r ≡ asked-lantern tiers lamps «lamp_need» «tier_need» part ⌝ }
+    ) -> Result<Lantern, TreeFault>
+        ensures made_within_limits_only { λ r. ⌜ mapped values-of told r ≡ asked-lantern tiers lamps «lamp_need» «tier_need» part ⌝ }
     {
         if within_limits(tiers, lamps, lamp_need, tier_need, part) {
             Ok(made(tiers, lamps, lamp_need, tier_need, part))
         } else {
-            Err(LanternCause::OutOfLimits)
+            Err(TreeFault {
+                line: 0,
+                field: 0,
+                layer: TreeLayer::Lantern(LanternCause::OutOfLimits),
+            })
         }
     }
 }
