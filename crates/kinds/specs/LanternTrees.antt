@@ -1,4 +1,4 @@
--- What a lantern means, what `Lantern::new` answers.
+-- What a lantern means, and what `Lantern::new` answers.
 use mathlib.Core.Bool.{Bool, cond}
 use mathlib.Core.List.{List}
 use Prim.Native.Nat.{ℕ}
