@@ -1,4 +1,6 @@
 // Total orders.
+#![tactic(auto)]
+
 ghost use Rattle.std.specs.Prelude.{◌≡◌, Bool};
 ghost use Rattle.orders.specs.Orders.{Total};
 

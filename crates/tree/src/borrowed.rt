@@ -5,6 +5,8 @@ use crate::station_tree::Tree;
 impl<T: Tree> Tree for &T {
     ghost meaning = { λ t. T.Tree.meaning t.now };
 
+    ghost ruled = { λ t. T.Tree.ruled t.now };
+
     fn count(&self) -> usize {
         (**self).count()
     }

@@ -1,4 +1,6 @@
 // Fault trees of light stations: lines that are parts or gates, each with a name.
+#![tactic(auto)]
+
 pub mod borrowed;
 pub mod line;
 pub mod line_set;

@@ -5,5 +5,5 @@ use Rattle.tree.proofs.line_set.one_line.Goals as goal
 
 pub returns : goal.returns
 returns c =
-    let e = c.bit-of.ensures in
+    let e = c.bit_of.ensures in
     record { value = e; lines = λ j. ap (λ s. has s j) e ∙ has_alone 64 c.args.i j }
