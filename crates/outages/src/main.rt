@@ -1,10 +1,12 @@
 // Reads an order and a station file from standard input, and writes the charge sheet, or the line that says why the
 // input is refused; a refused input ends the program with status 1.
-use anyhow::anyhow;
+#![tactic(auto)]
+
 use page::answer::{INPUT_BYTES, PAGE_BYTES, answer};
 use std::io::{Read, Write};
+use std::process::ExitCode;
 
-fn main(rt: HostRuntime) -> anyhow::Result<()> {
+fn main(rt: HostRuntime) -> anyhow::Result<ExitCode> {
     let mut input = Vec::new(rt.alloc());
     rt.stdin().take(INPUT_BYTES as u64).read_to_end(&mut input)?;
     let mut page = vec![in rt.alloc(); 0u8; PAGE_BYTES]?;
@@ -12,8 +14,8 @@ fn main(rt: HostRuntime) -> anyhow::Result<()> {
     let end = written.len.min(page.len());
     rt.stdout().write_all(&page[0..end])?;
     if written.refused {
-        Err(anyhow!("refused"))
+        Ok(ExitCode::FAILURE)
     } else {
-        Ok(())
+        Ok(ExitCode::SUCCESS)
     }
 }

@@ -2,6 +2,8 @@
 // its answer. In both, `>` stands for a tab, `/` for byte 10, `^` for byte 13, `~` for byte 200 and `@` for byte 0. A
 // line `#N` stands for a right order line and N letters, and `!N` in front of an input hands over only N page bytes,
 // which are shown whole, with `.` for those that stay.
+#![tactic(auto)]
+
 use page::answer::{INPUT_BYTES, PAGE_BYTES, answer};
 use std::alloc::{AllocError, Global};
 

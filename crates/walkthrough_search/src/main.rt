@@ -1,4 +1,6 @@
 // Goes through cut sets of a lantern and of a fixing of it, and through the heap in which a search will wait; prints each call with its answer.
+#![tactic(auto)]
+
 mod cuts;
 mod heaps;
 mod shown;
