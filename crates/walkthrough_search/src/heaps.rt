@@ -4,14 +4,14 @@ ghost use Rattle.pairing_heap.specs.Heaps.{Sound};
 
 use pairing_heap::heap::Heap;
 use pairing_heap::node::Node;
-use pairing_heap::sorting::sort;
+use pairing_heap::sorting::{Lesser, sort};
 use std::io;
 
 fn pushed(rt: &HostRuntime, heap: &mut Heap, nodes: &mut [Node<u64>], n: u64) -> io::Result<()>
     requires { Sound nat_le nodes.old heap.old }
     ensures { Sound nat_le nodes.new heap.new }
 {
-    let word = match heap.push::<pairing_heap::sorting::Lesser>(nodes, n) {
+    let word = match heap.push::<Lesser>(nodes, n) {
         Ok(()) => "done",
         Err(_) => "refused, no node is free",
     };
@@ -21,8 +21,8 @@ fn pushed(rt: &HostRuntime, heap: &mut Heap, nodes: &mut [Node<u64>], n: u64) ->
 fn seen(rt: &HostRuntime, heap: &Heap, nodes: &[Node<u64>]) -> io::Result<()>
     requires { Sound nat_le nodes.now heap.now }
 {
-    let held = heap.len::<pairing_heap::sorting::Lesser>();
-    match heap.first::<pairing_heap::sorting::Lesser>(nodes) {
+    let held = heap.len::<Lesser>();
+    match heap.first::<Lesser>(nodes) {
         Some(n) => println!(rt; "first: {n}, of {held}"),
         None => println!(rt; "first: none, of {held}"),
     }
@@ -32,7 +32,7 @@ fn popped(rt: &HostRuntime, heap: &mut Heap, nodes: &mut [Node<u64>]) -> io::Res
     requires { Sound nat_le nodes.old heap.old }
     ensures { Sound nat_le nodes.new heap.new }
 {
-    match heap.pop::<pairing_heap::sorting::Lesser>(nodes) {
+    match heap.pop::<Lesser>(nodes) {
         Some(n) => println!(rt; "pop: {n}"),
         None => println!(rt; "pop: none"),
     }
@@ -66,7 +66,7 @@ pub fn push_and_pop(rt: &HostRuntime) -> anyhow::Result<()> {
         child: 0,
         next: 0,
     }; 5];
-    let mut heap = Heap::begin::<pairing_heap::sorting::Lesser>(&mut nodes, 4);
+    let mut heap = Heap::begin::<Lesser>(&mut nodes, 4);
     let capacity = heap.capacity();
     println!(rt; "a heap over 5 nodes of which {capacity} count")?;
     fill(rt, &mut heap, &mut nodes)?;
@@ -75,7 +75,7 @@ pub fn push_and_pop(rt: &HostRuntime) -> anyhow::Result<()> {
     pushed(rt, &mut heap, &mut nodes, 1)?;
     empty(rt, &mut heap, &mut nodes)?;
     pushed(rt, &mut heap, &mut nodes, 7)?;
-    heap.clear::<pairing_heap::sorting::Lesser>(&mut nodes);
+    heap.clear::<Lesser>(&mut nodes);
     seen(rt, &heap, &nodes)?;
     Ok(())
 }
