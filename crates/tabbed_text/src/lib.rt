@@ -1,4 +1,6 @@
 // Text of tab-parted fields: reading fields and numbers, and writing them.
+#![tactic(auto)]
+
 pub mod fields;
 pub mod numbers;
 pub mod whole;

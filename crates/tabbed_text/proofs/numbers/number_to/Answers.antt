@@ -4,11 +4,11 @@ use Rattle.tabbed_text.specs.Numbers.{all_digits}
 use Rattle.tabbed_text.proofs.Decimals.{none_digits, none_high, some_number, digits_step, digits_end, value_step, value_end, value_ge}
 use Rattle.tabbed_text.proofs.numbers.number_to.Goals as goal
 
-pub returns-then-not-is-digit : goal.returns-then-not-is-digit
-returns-then-not-is-digit c =
+pub returns-then-not-is_digit : goal.returns-then-not-is_digit
+returns-then-not-is_digit c =
     let bs = c.args.bytes.now in
     let i = c.loop-b.b-index in
-    λ low. none_digits low c.args.high bs (sym c.loop-b.invariant.1 ∙ digits_step bs i c.loop-b-test.true ∙ ap (λ d. d && all_digits (drop (i + 1) bs)) (sym c.if-not-is-digit.ensures))
+    λ low. none_digits low c.args.high bs (sym c.loop-b.invariant.1 ∙ digits_step bs i c.loop-b-test.true ∙ ap (λ d. d && all_digits (drop (i + 1) bs)) (sym c.if-not-is_digit.ensures))
 
 pub returns-then-n-high : goal.returns-then-n-high
 returns-then-n-high c =
@@ -21,7 +21,7 @@ loop-b-preserved c =
     let bs = c.args.bytes.now in
     let i = c.loop-b.b-index in (
       sym (value_step c.loop-b.n bs i c.loop-b-test.true) ∙ c.loop-b.invariant.0,
-      ap (λ d. d && all_digits (drop (i + 1) bs)) c.if-not-is-digit.ensures ∙ sym (digits_step bs i c.loop-b-test.true) ∙ c.loop-b.invariant.1,
+      ap (λ d. d && all_digits (drop (i + 1) bs)) c.if-not-is_digit.ensures ∙ sym (digits_step bs i c.loop-b-test.true) ∙ c.loop-b.invariant.1,
       c.if-n-high.false,
     )
 
@@ -32,4 +32,4 @@ returns c =
     let lead : get_or bs 0 0 ≡ 48 → length bs ≤ 1 = λ e. ⊎_elim (λ p. p.1) (λ n. absurd (n e)) c.else-bytes-eq48.either in
     λ low.
     some_number low c.args.high c.loop-b.n bs (sym c.loop-b.invariant.1 ∙ digits_end bs i c.loop-b-test.false) (sym (value_end c.loop-b.n bs i c.loop-b-test.false) ∙ c.loop-b.invariant.0) c.loop-b.invariant.2
-    (omega (arith, eqb-false _ 0 (sym c.if-is-empty.ensures))) lead
+    (omega (arith, eqb-false _ 0 (sym c.if-is_empty.ensures))) lead

@@ -14,4 +14,4 @@ returns t c =
     let short : length c.args.out.now < 2 ^ 64 = search rules in
     let k-is : c.args.k ≡ suc (c.args.k - 1) = omega arith in
     let e : unpacked c.args.k w ≡ (w % 256 ∷ []) ++ unpacked (c.args.k - 1) (w / 256) = ap (λ j. unpacked j w) k-is in
-    rw e (put_then short c.put-byte-next.ensures c.put-word.ensures)
+    rw e (put_then short c.put_byte-next.ensures c.put_word.ensures)

@@ -8,4 +8,4 @@ returns c =
     let xs = c.args.out.now in
     let e : c.if-at-out.out ≡ set xs c.args.at c.args.b =
     elim c.if-at-out.branch [ then-at-out w ↦ w.out-is | else-at-out w ↦ w.out-is ∙ sym (set_past xs c.args.at c.args.b w.if-at-out.false) ] in
-    record { placed_from_place = e; place_moves_on = omega (arith, c.saturating-add.ensures, c.ranges.at.fits) }
+    record { placed_from_place = e; place_moves_on = omega (arith, c.saturating_add.ensures, c.ranges.at.fits) }

@@ -10,7 +10,7 @@ pub loop-b-preserved : goal.loop-b-preserved
 loop-b-preserved c =
     let bs = c.args.bytes.now in
     let short : length c.args.out.now < 2 ^ 64 = search rules in
-    rw (take_more bs c.loop-b.b-index 0 c.loop-b-test.true) (put_then short c.loop-b.invariant c.put-byte-next.ensures)
+    rw (take_more bs c.loop-b.b-index 0 c.loop-b-test.true) (put_then short c.loop-b.invariant c.put_byte-next.ensures)
 
 pub returns : goal.returns
 returns c = rw (take_all c.loop-b.b-index c.args.bytes.now c.loop-b-test.false) at c.loop-b.invariant

@@ -3,18 +3,18 @@ use Rattle.tabbed_text.specs.Fields.{field_len}
 use Rattle.tabbed_text.proofs.Walking.{len_step, len_end, ends_field}
 use Rattle.tabbed_text.proofs.fields.walk.field_end.Goals as goal
 
-pub returns-then-is-separator : goal.returns-then-is-separator
-returns-then-is-separator c =
+pub returns-then-is_separator : goal.returns-then-is_separator
+returns-then-is_separator c =
     let bs = c.args.bytes.now in
     let i = c.loop-i.i in
-    let none = len_step bs i c.loop-i-test.true ∙ ap (λ b. cond b 0 (suc (field_len (drop (i + 1) bs)))) (sym c.if-is-separator.ensures) in
+    let none = len_step bs i c.loop-i-test.true ∙ ap (λ b. cond b 0 (suc (field_len (drop (i + 1) bs)))) (sym c.if-is_separator.ensures) in
     ends_field bs c.args.at i (omega (arith, none, c.loop-i.invariant)) (omega arith) (omega arith)
 
 pub loop-i-preserved : goal.loop-i-preserved
 loop-i-preserved c =
     let bs = c.args.bytes.now in
     let i = c.loop-i.i in
-    let more = len_step bs i c.loop-i-test.true ∙ ap (λ b. cond b 0 (suc (field_len (drop (i + 1) bs)))) (sym c.if-is-separator.ensures) in
+    let more = len_step bs i c.loop-i-test.true ∙ ap (λ b. cond b 0 (suc (field_len (drop (i + 1) bs)))) (sym c.if-is_separator.ensures) in
     omega (arith, more, c.loop-i.invariant)
 
 pub returns : goal.returns
