@@ -1,4 +1,6 @@
 // What makes one set of parts come before another: the charges of parts, and the weights of sets.
+#![tactic(auto)]
+
 pub mod charge;
 pub mod kinds;
 pub mod order;
