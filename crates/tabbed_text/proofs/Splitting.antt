@@ -1,6 +1,6 @@
 -- Cutting a text into lines and fields undoes writing it, and writing undoes cutting.
 use Rattle.std.proofs.Common.{◌≡◌, ℕ, suc, ◌-◌, ◌<◌, Bool, true, false, eqb, ◌⊎◌, List, [], ◌∷◌, ◌++◌, map, length, get_or, refl, ap, ◌∙◌, subst, inl, inr, arith}
-use Rattle.std.specs.List.{flat_map, AllByRecursion as All}
+use Rattle.std.specs.List.{flat_map, AllByRecursion}
 use Rattle.std.proofs.ByRecursion.{All-append, All-weaker}
 use Rattle.std.proofs.lemmas.List.{append-nil, length-map}
 use Rattle.std.proofs.lemmas.Bool.{cond_both, cond-true, cond-false, eq-eqb, eqb-true, eqb-false, or_parts}
@@ -33,15 +33,15 @@ tabbed_pieces (b ∷ bs) =
     (λ e. let ih = tabbed_pieces bs in let n = eqb-true b 9 e in joined_tabbed (pieces 9 bs) (some_pieces 9 bs) ∙ cc)
     (λ _. tabbed_prepend b (pieces 9 bs) ∙ ap (λ xs. b ∷ xs) (tabbed_pieces bs))
 
-pieces_one : (s : ℕ) (f : List ℕ) → All (λ b. eqb b s ≡ false) f → pieces s f ≡ f ∷ []
+pieces_one : (s : ℕ) (f : List ℕ) → AllByRecursion (λ b. eqb b s ≡ false) f → pieces s f ≡ f ∷ []
 pieces_one s [] free = refl
 pieces_one s (b ∷ f) free = cond-false (eqb b s) _ _ free.0 ∙ ap (prepend b) (pieces_one s f free.1)
 
-pieces_more : (s : ℕ) (f rest : List ℕ) → All (λ b. eqb b s ≡ false) f → pieces s (f ++ (s ∷ rest)) ≡ f ∷ pieces s rest
+pieces_more : (s : ℕ) (f rest : List ℕ) → AllByRecursion (λ b. eqb b s ≡ false) f → pieces s (f ++ (s ∷ rest)) ≡ f ∷ pieces s rest
 pieces_more s [] rest free = cond-true (eqb s s) _ _ (eq-eqb s s refl)
 pieces_more s (b ∷ f) rest free = cond-false (eqb b s) _ _ free.0 ∙ ap (prepend b) (pieces_more s f rest free.1)
 
-pub pieces_tabbed : (fs : List (List ℕ)) → 0 < length fs → All (λ f. All (λ b. eqb b 9 ≡ false) f) fs → pieces 9 (tabbed fs) ≡ fs
+pub pieces_tabbed : (fs : List (List ℕ)) → 0 < length fs → AllByRecursion (λ f. AllByRecursion (λ b. eqb b 9 ≡ false) f) fs → pieces 9 (tabbed fs) ≡ fs
 pieces_tabbed [] some free = let z : ⊥ = omega arith in absurd z
 pieces_tabbed (f ∷ []) some free = ap (pieces 9) (append-nil f) ∙ pieces_one 9 f free.0
 pieces_tabbed (f ∷ (g ∷ fs)) some free =
@@ -49,7 +49,7 @@ pieces_tabbed (f ∷ (g ∷ fs)) some free =
 
 -- ---- lines
 
-ended_more : (s : ℕ) (f rest : List ℕ) → All (λ b. eqb b s ≡ false) f → ended s (f ++ (s ∷ rest)) ≡ f ∷ ended s rest
+ended_more : (s : ℕ) (f rest : List ℕ) → AllByRecursion (λ b. eqb b s ≡ false) f → ended s (f ++ (s ∷ rest)) ≡ f ∷ ended s rest
 ended_more s [] rest free = cond-true (eqb s s) _ _ (eq-eqb s s refl)
 ended_more s (b ∷ f) rest free = cond-false (eqb b s) _ _ free.0 ∙ ap (prepend b) (ended_more s f rest free.1)
 
@@ -60,23 +60,23 @@ no_end : (b : ℕ) → separates b ≡ false → eqb b 10 ≡ false
 no_end b e = (or_parts (eqb b 9) (eqb b 10) e).1
 
 abbrev Unparted : List ℕ → Type 0
-Unparted f = All (λ b. separates b ≡ false) f
+Unparted f = AllByRecursion (λ b. separates b ≡ false) f
 
 abbrev Unended : List ℕ → Type 0
-Unended f = All (λ b. eqb b 10 ≡ false) f
+Unended f = AllByRecursion (λ b. eqb b 10 ≡ false) f
 
-joined_unended : (fs : List (List ℕ)) → All Unparted fs → Unended (flat_map (λ g. 9 ∷ g) fs)
+joined_unended : (fs : List (List ℕ)) → AllByRecursion Unparted fs → Unended (flat_map (λ g. 9 ∷ g) fs)
 joined_unended [] free = tt
 joined_unended (f ∷ fs) free =
     (refl, All-append (λ b. eqb b 10 ≡ false) f _ (All-weaker _ _ no_end f free.0) (joined_unended fs free.1))
 
-tabbed_unended : (fs : List (List ℕ)) → All Unparted fs → Unended (tabbed fs)
+tabbed_unended : (fs : List (List ℕ)) → AllByRecursion Unparted fs → Unended (tabbed fs)
 tabbed_unended [] free = tt
 tabbed_unended (f ∷ fs) free =
     All-append (λ b. eqb b 10 ≡ false) f _ (All-weaker _ _ no_end f free.0) (joined_unended fs free.1)
 
 -- a line that is written in front of a text is its first line
-pub lines_cons : (fs : List (List ℕ)) (rest : List ℕ) → 0 < length fs → All (λ f. All (λ b. separates b ≡ false) f) fs → lines_of (tabbed fs ++ (10 ∷ rest)) ≡ fs ∷ lines_of rest
+pub lines_cons : (fs : List (List ℕ)) (rest : List ℕ) → 0 < length fs → AllByRecursion (λ f. AllByRecursion (λ b. separates b ≡ false) f) fs → lines_of (tabbed fs ++ (10 ∷ rest)) ≡ fs ∷ lines_of rest
 lines_cons fs rest some free =
     ap (map (pieces 9)) (ended_more 10 (tabbed fs) rest (tabbed_unended fs free))
     ∙ ap (λ gs. gs ∷ lines_of rest) (pieces_tabbed fs some (All-weaker _ _ (λ f. All-weaker _ _ no_tab f) fs free))

@@ -1,7 +1,7 @@
 -- A text is cut into lines, each ended by byte 10, and a line into fields, parted by tabs (byte 9). Every tab parts two
 -- fields: where tabs meet, and at a line's ends, a field is empty, and an empty line has one field.
 use Rattle.std.specs.Prelude.{◌≡◌, ℕ, suc, ◌-◌, ◌≤◌, Bool, true, false, cond, ◌||◌, List, [], ◌∷◌, ◌++◌, map, length, take, drop, ◌==◌}
-use Rattle.std.specs.List.{flat_map, AllByRecursion as All}
+use Rattle.std.specs.List.{flat_map, AllByRecursion}
 
 -- what stands before the first s
 abbrev pub up_to : ℕ → List ℕ → List ℕ
@@ -63,7 +63,7 @@ field_len (b ∷ bs) = cond (separates b) 0 (suc (field_len bs))
 -- f is the bytes of xs up to the next tab, byte 10 or the end, and ys is all that follows it
 pub record FieldOf (xs f ys : List ℕ) : Type 0 where
   pub whole : xs ≡ f ++ ys
-  pub unparted : All (λ b. separates b ≡ false) f
+  pub unparted : AllByRecursion (λ b. separates b ≡ false) f
   pub parted_after : parted ys ≡ true
 
 -- no field follows in the line, and the walk stays
@@ -74,7 +74,7 @@ pub record NoField (xs ys : List ℕ) : Type 0 where
 -- a tab, then the field f, and ys is all that follows it
 pub record NextField (xs f ys : List ℕ) : Type 0 where
   pub whole : xs ≡ 9 ∷ (f ++ ys)
-  pub unparted : All (λ b. separates b ≡ false) f
+  pub unparted : AllByRecursion (λ b. separates b ≡ false) f
   pub parted_after : parted ys ≡ true
   pub leads : more_fields xs ≡ f ∷ more_fields ys
 
