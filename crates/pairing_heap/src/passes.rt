@@ -21,7 +21,7 @@ fn pair_off<O: Order>(
     requires within { first < length nodes.old }
     requires linked { second ≢ none → second < length nodes.old }
     ensures rest { (v : Node O.Item) → result.0 ≡ next_from nodes.old second v }
-    ensures melded { (v : Node O.Item) → v ≡ slice_index_or nodes.old first v → Melded le nodes.old second first v done nodes.new result.1 }
+    ensures melded { (v : Node O.Item) → v ≡ slice_index_or nodes.old first v → Melded O.le nodes.old second first v done nodes.new result.1 }
 {
     let rest = next_of(nodes, second);
     let tree = meld::<O>(nodes, second, first, done);
@@ -34,7 +34,7 @@ fn meld_first<O: Order>(nodes: &mut [Node<O::Item>], first: usize, root: usize) 
     requires linked { root ≢ none → root < length nodes.old }
     ensures rest { (v : Node O.Item) → v ≡ slice_index_or nodes.old first v → result.0 ≡ v.next }
     ensures some { first ≢ none → result.1 ≢ none }
-    ensures melded { (v : Node O.Item) → v ≡ slice_index_or nodes.old first v → Melded le nodes.old root first v none nodes.new result.1 }
+    ensures melded { (v : Node O.Item) → v ≡ slice_index_or nodes.old first v → Melded O.le nodes.old root first v none nodes.new result.1 }
 {
     let rest = nodes[first].next;
     let tree = meld::<O>(nodes, root, first, NONE);
@@ -47,7 +47,7 @@ fn link_first<O: Order>(nodes: &mut [Node<O::Item>], first: usize, root: usize) 
     requires rooted { root < length nodes.old }
     ensures rest { (v : Node O.Item) → v ≡ slice_index_or nodes.old first v → result.0 ≡ v.next }
     ensures some { root ≢ none → first ≢ none → result.1 ≢ none }
-    ensures linked { (v w : Node O.Item) → v ≡ slice_index_or nodes.old root v → w ≡ slice_index_or nodes.old first w → Linked le nodes.old root v first w none nodes.new result.1 }
+    ensures linked { (v w : Node O.Item) → v ≡ slice_index_or nodes.old root v → w ≡ slice_index_or nodes.old first w → Linked O.le nodes.old root v first w none nodes.new result.1 }
 {
     let rest = nodes[first].next;
     let tree = link::<O>(nodes, root, first, NONE);
@@ -57,9 +57,9 @@ fn link_first<O: Order>(nodes: &mut [Node<O::Item>], first: usize, root: usize) 
 impl Heap {
     // The first pass: melds the trees of a row in pairs, from the left. The new row has the last pair first.
     pub(crate) fn pair_up<O: Order>(&self, nodes: &mut [Node<O::Item>], row: usize) -> usize
-        requires { Loose le nodes.old self.now.free self.now.len self.now.bound row none }
-        ensures loose { Loose le nodes.new self.now.free self.now.len self.now.bound result none }
-        ensures items { loose_items le nodes.new self.now.bound result none ≡ loose_items le nodes.old self.now.bound row none }
+        requires { Loose O.le nodes.old self.now.free self.now.len self.now.bound row none }
+        ensures loose { Loose O.le nodes.new self.now.free self.now.len self.now.bound result none }
+        ensures items { loose_items O.le nodes.new self.now.bound result none ≡ loose_items O.le nodes.old self.now.bound row none }
         ensures past { drop self.now.bound nodes.new ≡ drop self.now.bound nodes.old }
     {
         let mut rest = row;
@@ -73,10 +73,10 @@ impl Heap {
 
     // Links the trees of a row, one after another, with the tree at `root`.
     fn link_row<O: Order>(&self, nodes: &mut [Node<O::Item>], row: usize, root: usize) -> usize
-        requires loose { Loose le nodes.old self.now.free self.now.len self.now.bound row root }
+        requires loose { Loose O.le nodes.old self.now.free self.now.len self.now.bound row root }
         requires rooted { root ≢ none }
-        ensures sound { Loose le nodes.new self.now.free self.now.len self.now.bound none result }
-        ensures items { items_at le nodes.new self.now.bound result ≡ loose_items le nodes.old self.now.bound row root }
+        ensures sound { Loose O.le nodes.new self.now.free self.now.len self.now.bound none result }
+        ensures items { items_at O.le nodes.new self.now.bound result ≡ loose_items O.le nodes.old self.now.bound row root }
         ensures past { drop self.now.bound nodes.new ≡ drop self.now.bound nodes.old }
     {
         let mut rest = row;
@@ -94,9 +94,9 @@ impl Heap {
         row: usize,
         root: usize,
     ) -> usize
-        requires { Loose le nodes.old self.now.free self.now.len self.now.bound row root }
-        ensures sound { Loose le nodes.new self.now.free self.now.len self.now.bound none result }
-        ensures items { items_at le nodes.new self.now.bound result ≡ loose_items le nodes.old self.now.bound row root }
+        requires { Loose O.le nodes.old self.now.free self.now.len self.now.bound row root }
+        ensures sound { Loose O.le nodes.new self.now.free self.now.len self.now.bound none result }
+        ensures items { items_at O.le nodes.new self.now.bound result ≡ loose_items O.le nodes.old self.now.bound row root }
         ensures past { drop self.now.bound nodes.new ≡ drop self.now.bound nodes.old }
     {
         if row == NONE {
