@@ -1,10 +1,9 @@
 -- When the top of a lantern holds.
-use Rattle.std.proofs.Common.{◌≡◌, ℕ, ◌+◌, ◌-◌, ◌*◌, ◌<◌, true, leb, List, ap, ◌∙◌, arith}
+use Rattle.std.proofs.Common.{◌≡◌, ℕ, ◌+◌, ◌*◌, ◌<◌, true, leb, List, ap, ◌∙◌, arith}
 use native.Mathlib.Nat.{add-sub_cancel_left}
 use Rattle.tree.specs.Holding.{holding, holds, HoldingLaws}
 use Rattle.tree.specs.Sets.{has}
 use Rattle.tree.specs.declared.line.Part.{Part}
-use Rattle.tree.specs.declared.line.Line.TheVariants as line
 use Rattle.tree.specs.declared.line.Row.{Row}
 use Rattle.tree.proofs.Holding.{holding_laws}
 use Rattle.kinds.specs.Lanterns.{run, tier_line, in_limits, lantern_rows, dark_tier, dark_tiers}

@@ -1,8 +1,6 @@
 -- The number and the layer of each refusal of a lantern and of a fixing; neither names a line or a field.
 use Rattle.std.specs.Prelude.{ℕ}
-use Rattle.kinds.specs.declared.faults.LanternCause.{LanternCause}
 use Rattle.kinds.specs.declared.faults.LanternCause.TheVariants.{OutOfLimits}
-use Rattle.kinds.specs.declared.faults.FixingCause.{FixingCause}
 use Rattle.kinds.specs.declared.faults.FixingCause.TheVariants.{NotPart}
 use Rattle.kinds.specs.declared.faults.TreeFault.{TreeFault}
 use Rattle.kinds.specs.declared.faults.TreeLayer.{TreeLayer}

@@ -5,9 +5,9 @@ use Rattle.kinds.proofs.fixing.Fixing.laid_over.Goals as goal
 pub returns : goal.returns
 returns g c =
     let s = c.args.self.now in
-    overlaid_some s.failed s.sound (g.T.Tree.meaning s.inner) c.args.i c.in-ok-below.field-0 c.standing.result c.standing.ensures (sym c.in-ok-below.was ∙ c.requires)
+    overlaid_some s.failed s.sound (g.T.Tree.meaning s.inner) c.args.i c.in_ok-below.field-0 c.standing.result c.standing.ensures (sym c.in_ok-below.was ∙ c.requires)
 
-pub returns-in-err-below : goal.returns-in-err-below
-returns-in-err-below g c =
+pub returns-in_err-below : goal.returns-in_err-below
+returns-in_err-below g c =
     let s = c.args.self.now in
-    c.from-residual.ensures ∙ overlaid_missing s.failed s.sound (g.T.Tree.meaning s.inner) c.args.i (sym c.in-err-below.was ∙ c.requires)
+    c.from_residual.ensures ∙ overlaid_missing s.failed s.sound (g.T.Tree.meaning s.inner) c.args.i (sym c.in_err-below.was ∙ c.requires)

@@ -8,7 +8,7 @@ pub returns : goal.returns
 returns g c =
     let s = c.args.self.now in
     let rows = g.T.Tree.meaning s.inner in
-    let after = after_failed s.failed s.sound c.args.line rows (g.met.T.Tree.ruled s.inner) c.requires c.alone.result c.alone.ensures.is-one-line in
+    let after = after_failed s.failed s.sound c.args.line rows (g.met.T.Tree.ruled s.inner) c.requires c.alone.result c.alone.ensures.is_one_line in
     record {
       means = after;
       holds = fixed_holding (overlaid s.failed s.sound rows) c.args.line Failed c.requires _ after;

@@ -12,7 +12,7 @@ returns c =
     record {
       value = refl;
       small = omega arith;
-      to-top = omega arith;
+      to_top = omega arith;
       to_end = sym long;
       top_holds = top_holds l.tiers l.lamps l.lamp_need l.tier_need l.part l.within;
     }

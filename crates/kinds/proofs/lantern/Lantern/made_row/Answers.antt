@@ -23,17 +23,17 @@ module _ (t p q r : ℕ) (part : Part) (lamps i : ℕ) (is : lamps ≡ t * p) wh
 pub returns-then-i-lamps : goal.returns-then-i-lamps
 returns-then-i-lamps c =
     let l = c.args.self.now in
-    lamp l.tiers l.lamps l.lamp_need l.tier_need l.part c.all-lamps-lamps.result c.args.i c.all-lamps-lamps.ensures.value _
+    lamp l.tiers l.lamps l.lamp_need l.tier_need l.part c.all_lamps-lamps.result c.args.i c.all_lamps-lamps.ensures.value _
     c.if-i-lamps.true c.numbered.ensures
 
 pub returns-then-i-lamps-2 : goal.returns-then-i-lamps-2
 returns-then-i-lamps-2 c =
     let l = c.args.self.now in
-    tier l.tiers l.lamps l.lamp_need l.tier_need l.part c.all-lamps-lamps.result c.args.i c.all-lamps-lamps.ensures.value _ _
+    tier l.tiers l.lamps l.lamp_need l.tier_need l.part c.all_lamps-lamps.result c.args.i c.all_lamps-lamps.ensures.value _ _
     c.if-i-lamps.false c.if-i-lamps-2.true c.tier.ensures c.numbered-then-i-lamps-2.ensures
 
 pub returns-else-i-lamps-2 : goal.returns-else-i-lamps-2
 returns-else-i-lamps-2 c =
     let l = c.args.self.now in
-    last l.tiers l.lamps l.lamp_need l.tier_need l.part c.all-lamps-lamps.result c.args.i c.all-lamps-lamps.ensures.value _ _
+    last l.tiers l.lamps l.lamp_need l.tier_need l.part c.all_lamps-lamps.result c.args.i c.all_lamps-lamps.ensures.value _ _
     c.if-i-lamps-2.false c.last.ensures c.numbered-else-i-lamps-2.ensures

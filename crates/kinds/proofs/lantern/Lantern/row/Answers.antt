@@ -6,7 +6,7 @@ pub returns-then-i-lines : goal.returns-then-i-lines
 returns-then-i-lines c =
     let l = c.args.self.now in
     let long = lantern_length l.tiers l.lamps l.lamp_need l.tier_need l.part in
-    ap Some c.made-row.ensures ∙ sym (lantern_nth l.tiers l.lamps l.lamp_need l.tier_need l.part c.args.i (omega arith))
+    ap Some c.made_row.ensures ∙ sym (lantern_nth l.tiers l.lamps l.lamp_need l.tier_need l.part c.args.i (omega arith))
 
 pub returns-else-i-lines : goal.returns-else-i-lines
 returns-else-i-lines c =
