@@ -8,7 +8,6 @@ use Rattle.std.proofs.lemmas.Bool.{and_parts, both_ways, eqb-true, leb-true, or_
 use Rattle.tree.specs.Names.{well_named, name_of, name_bytes, same_name, spelled}
 use Rattle.tree.specs.Sets.{has}
 use Rattle.tree.specs.declared.line.Line.{Line}
-use Rattle.tree.specs.declared.line.Line.TheVariants as a_line
 use Rattle.tree.specs.declared.line.Name.{Name}
 use Rattle.tree.specs.declared.line.Row.{Row}
 use Rattle.tree.proofs.Sets.{has_or, has_none, has_one, only_one, or_in, in_left, in_right}

@@ -1,4 +1,6 @@
 // Station files: the reader, the tree that it fills, and why a file is refused.
+#![tactic(auto)]
+
 mod draft;
 pub mod faults;
 mod gates;

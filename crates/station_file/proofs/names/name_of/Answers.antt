@@ -8,8 +8,8 @@ returns c =
     let bs = c.args.bytes.now in
     let cut = c.min-cut.ensures in
     let m = take_min bs in
-    let head : c.word-of.result ≡ packed (take 8 bs) = c.word-of.ensures ∙ ap packed (c.split-at.ensures.front ∙ ap (λ n. take n bs) cut ∙ m.0) in
-    let tail : c.word-of-2.result ≡ packed (drop 8 bs) = c.word-of-2.ensures ∙ ap packed (c.split-at.ensures.back ∙ ap (λ n. drop n bs) cut ∙ m.1) in
-    ap (λ h. Some (record { head = h; tail = c.word-of-2.result; len = length bs })) head
+    let head : c.word_of.result ≡ packed (take 8 bs) = c.word_of.ensures ∙ ap packed (c.split_at.ensures.front ∙ ap (λ n. take n bs) cut ∙ m.0) in
+    let tail : c.word_of-2.result ≡ packed (drop 8 bs) = c.word_of-2.ensures ∙ ap packed (c.split_at.ensures.back ∙ ap (λ n. drop n bs) cut ∙ m.1) in
+    ap (λ h. Some (record { head = h; tail = c.word_of-2.result; len = length bs })) head
     ∙ ap (λ t. Some (record { head = packed (take 8 bs); tail = t; len = length bs })) tail
-    ∙ a_name bs (sym c.if-not-is-name.ensures)
+    ∙ a_name bs (sym c.if-not-is_name.ensures)

@@ -6,11 +6,11 @@ use Rattle.station_file.proofs.names.word_of.Goals as goal
 pub loop-i-init : goal.loop-i-init
 loop-i-init c = (sym (pack_end c.args.bytes.now (length c.args.bytes.now) (omega arith)), omega arith)
 
-pub overflow-mul-word : goal.overflow-mul-word
-overflow-mul-word c = omega (arith, c.loop-i.invariant.0, pack_room c.args.bytes.now c.loop-i.i (λ k. omega (arith, c.type-inv.bytes k)) c.requires (omega arith) c.loop-i.invariant.1)
+pub overflow_mul-word : goal.overflow_mul-word
+overflow_mul-word c = omega (arith, c.loop-i.invariant.0, pack_room c.args.bytes.now c.loop-i.i (λ k. omega (arith, c.type_inv.bytes k)) c.requires (omega arith) c.loop-i.invariant.1)
 
-pub overflow-add-word : goal.overflow-add-word
-overflow-add-word c = omega (arith, c.loop-i.invariant.0, c.type-inv.bytes (c.loop-i.i - 1), pack_room c.args.bytes.now c.loop-i.i (λ k. omega (arith, c.type-inv.bytes k)) c.requires (omega arith) c.loop-i.invariant.1)
+pub overflow_add-word : goal.overflow_add-word
+overflow_add-word c = omega (arith, c.loop-i.invariant.0, c.type_inv.bytes (c.loop-i.i - 1), pack_room c.args.bytes.now c.loop-i.i (λ k. omega (arith, c.type_inv.bytes k)) c.requires (omega arith) c.loop-i.invariant.1)
 
 pub loop-i-preserved : goal.loop-i-preserved
 loop-i-preserved c =

@@ -10,15 +10,15 @@ loop-i-preserved c =
     let s = c.args.self.now in
     let i = c.loop-i.i in
     let rest = first_named (i + 1) (drop (i + 1) (above s)) c.args.name in
-    ap (λ b. cond b (Some i) rest) c.if-same-name.ensures ∙ sym (first_step s.count s.rows i _ c.args.name c.loop-i-test.true (omega arith)) ∙ c.loop-i.invariant
+    ap (λ b. cond b (Some i) rest) c.if-same_name.ensures ∙ sym (first_step s.count s.rows i _ c.args.name c.loop-i-test.true (omega arith)) ∙ c.loop-i.invariant
 
-pub returns-then-same-name : goal.returns-then-same-name
-returns-then-same-name c =
+pub returns-then-same_name : goal.returns-then-same_name
+returns-then-same_name c =
     let s = c.args.self.now in
     let i = c.loop-i.i in
     let rest = first_named (i + 1) (drop (i + 1) (above s)) c.args.name in
     record {
-      value = ap (λ b. cond b (Some i) rest) c.if-same-name.ensures ∙ sym (first_step s.count s.rows i _ c.args.name c.loop-i-test.true (omega arith)) ∙ c.loop-i.invariant;
+      value = ap (λ b. cond b (Some i) rest) c.if-same_name.ensures ∙ sym (first_step s.count s.rows i _ c.args.name c.loop-i-test.true (omega arith)) ∙ c.loop-i.invariant;
       within = omega (arith, c.loop-i-test.true, length-take-le s.count s.rows (omega arith));
     }
 
