@@ -3,7 +3,7 @@ ghost use Rattle.std.specs.Prelude.{◌≡◌, ◌+◌, ◌<◌, ◌≤◌, ◌&
 ghost use Rattle.tabbed_text.specs.Fields.{more_fields, after};
 ghost use Rattle.tabbed_text.specs.Remains.{remains};
 ghost use Rattle.station_file.specs.Names.{name_from, line_named};
-ghost use Rattle.station_file.specs.Records.{child_field, children as children-of, all_body, any_body, vote_body, bare_body};
+ghost use Rattle.station_file.specs.Records.{child_field, children as children_of, all_body, any_body, vote_body, bare_body};
 ghost use Rattle.station_file.specs.Trees.{above};
 
 use crate::draft::Draft;
@@ -60,7 +60,7 @@ fn children(
     first: usize,
 ) -> Result<u64, StationFault>
     requires { first + length (more_fields (remains walk.old)) ≤ 20 }
-    ensures value { result ≡ children-of line first (above draft.now) 0 (more_fields (remains walk.old)) }
+    ensures value { result ≡ children_of line first (above draft.now) 0 (more_fields (remains walk.old)) }
     ensures rest { after 10 (remains walk.new) ≡ after 10 (remains walk.old) }
 {
     let mut set = 0;
