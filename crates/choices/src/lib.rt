@@ -1,7 +1,7 @@
 // How many sets of exactly q of m lines there are.
 #![tactic(auto)]
 
-ghost use Rattle.std.specs.Prelude.{◌≡◌, ◌<◌, ◌≤◌, true, ◌&&◌, leb, ◌⊎◌, if◌then◌else◌, Some, None, MatchOption, nat_le};
+ghost use Rattle.std.specs.Prelude.{◌≡◌, ◌<◌, ◌≤◌, true, ◌&&◌, ◌⊎◌, if◌then◌else◌, Some, None, MatchOption, nat_le};
 ghost use Rattle.choices.specs.Counts.{binom, entry, keeps_pascal, Pascal, ChoicesLaw, NumberOfChoices};
 
 // Row m, column q: how many choices of q of m lines, from 0 to 12 each.
@@ -18,7 +18,7 @@ const COUNTS: [u16; 169] = [
 // The table's number for q of m lines, where it has one.
 fn cell(m: usize, q: usize) -> Option<u16>
     ensures table { keeps_pascal COUNTS ≡ true }
-    ensures read { result ≡ (if leb m 12 && nat_le q 12 then Some (entry COUNTS m q) else None) }
+    ensures read { result ≡ (if nat_le m 12 && nat_le q 12 then Some (entry COUNTS m q) else None) }
 {
     if m <= 12 && q <= 12 {
         Some(COUNTS[m * 13 + q])
@@ -28,7 +28,7 @@ fn cell(m: usize, q: usize) -> Option<u16>
 }
 
 fn counted(m: usize, q: usize) -> Option<u32>
-    ensures count { result ≡ (if leb m 12 && nat_le q 12 then Some (binom m q) else None) }
+    ensures count { result ≡ (if nat_le m 12 && nat_le q 12 then Some (binom m q) else None) }
     ensures rule { Pascal COUNTS }
     ensures number { MatchOption result ((12 < m) ⊎ (12 < q)) (λ k. NumberOfChoices m q k) }
     ensures law { ChoicesLaw }
@@ -42,7 +42,7 @@ fn counted(m: usize, q: usize) -> Option<u32>
 
 // How many sets of exactly q of m lines there are, where neither is above 12.
 pub fn count(m: usize, q: usize) -> Option<u32>
-    ensures is_by_pascals_rule { result ≡ (if leb m 12 && nat_le q 12 then Some (binom m q) else None) }
+    ensures is_by_pascals_rule { result ≡ (if nat_le m 12 && nat_le q 12 then Some (binom m q) else None) }
     ensures table_keeps_pascals_rule { Pascal COUNTS }
     ensures counts_the_choices { MatchOption result ((12 < m) ⊎ (12 < q)) (λ k. NumberOfChoices m q k) }
     ensures choices_are_the_subsets { ChoicesLaw }
