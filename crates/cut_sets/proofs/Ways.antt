@@ -1,5 +1,5 @@
 -- Which sets a way stands for, and how the order of ways goes with the order of sets.
-use Rattle.std.proofs.Common.{◌≡◌, ℕ, ◌^◌, ◌<◌, ◌≤◌, Bool, true, false, cond, not, eqb, ltb, leb, ◌⊎◌, List, length, sym, refl, ap, ◌∙◌, subst, ap₂, ⊎_elim, arith}
+use Rattle.std.proofs.Common.{◌≡◌, ℕ, ◌^◌, ◌<◌, ◌≤◌, Bool, true, false, cond, not, eqb, ltb, leb, List, length, sym, refl, ap, ◌∙◌, subst, ap₂, ⊎_elim, arith}
 use lib.Bits.{bit_and}
 use lib.Count.{ones}
 use Rattle.std.proofs.lemmas.Bool.{leb-true, le-leb, lt-ltb, eq-eqb, cases_eq, both_ways, cond-true}
@@ -11,7 +11,6 @@ use Rattle.tree.specs.Lines.{part_line}
 use Rattle.tree.specs.Rules.{keeps_rules}
 use Rattle.tree.specs.Sets.{has, alone, ◌⊆◌, Below, set_le}
 use Rattle.tree.specs.declared.line.Part.{Part}
-use Rattle.tree.specs.declared.line.Gate.{Gate}
 use Rattle.tree.specs.declared.line.Line.{Line}
 use Rattle.tree.specs.declared.line.Line.TheVariants as line
 use Rattle.tree.specs.declared.line.Row.{Row}

@@ -13,13 +13,13 @@ pub loop-i-preserved : goal.loop-i-preserved
 loop-i-preserved g c =
     let t = c.args.tree.now in
     let rows = g.T.Tree.meaning t in
-    let low : c.loop-i.i < 64 = omega (arith, few_lines rows (g.met.T.Tree.ruled t), c.count-i-end.ensures.counts-lines) in
+    let low : c.loop-i.i < 64 = omega (arith, few_lines rows (g.met.T.Tree.ruled t), c.count-i-end.ensures.counts_lines) in
     let part : c.is_part.result ≡ part_line (the_line rows c.loop-i.i) = cc in
-    told_more (λ i below. part_line (the_line rows i)) c.loop-i.i c.loop-i.set c.with-line-set.result c.is_part.result low c.loop-i.invariant part c.with-line-set.ensures
+    told_more (λ i below. part_line (the_line rows i)) c.loop-i.i c.loop-i.set c.with_line-set.result c.is_part.result low c.loop-i.invariant part c.with_line-set.ensures
 
 pub returns : goal.returns
 unfolding lines_that
 returns g c =
     let rows = g.T.Tree.meaning c.args.tree.now in
-    let all : c.loop-i.i ≡ length rows = omega (arith, c.count-i-end.ensures.counts-lines) in
+    let all : c.loop-i.i ≡ length rows = omega (arith, c.count-i-end.ensures.counts_lines) in
     told_all (λ i below. part_line (the_line rows i)) c.loop-i.set c.loop-i.i (length rows) c.loop-i.invariant all

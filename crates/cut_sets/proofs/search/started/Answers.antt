@@ -15,7 +15,7 @@ returns g c =
     let m = g.R.Ranking.model in
     let law = g.met.R.Ranking.lawful in
     record {
-      alone = λ is. ap (λ w. search_of (w ∷ []) []) (sym (c.way-of.ensures is));
+      alone = λ is. ap (λ w. search_of (w ∷ []) []) (sym (c.way_of.ensures is));
       order = λ charge_of. ways_total m law charge_of rows;
       lists = λ charge_of slots d s. lists_in_order m law charge_of rows ruled slots d s;
       waits = λ charge_of slots d s. ways_in_order m law charge_of rows ruled slots d s;

@@ -8,5 +8,5 @@ pub returns : goal.returns
 returns g c is =
     let t = c.args.tree.now in
     let rows = g.T.Tree.meaning t in
-    let part : c.is-part-part.result ≡ part_line (the_line rows c.args.i) = cc in
-    top_told rows (g.met.T.Tree.ruled t) _ c.args.i c.is-part-part.result is part c.with-line.ensures c.with-line-2.ensures
+    let part : c.is_part-part.result ≡ part_line (the_line rows c.args.i) = cc in
+    top_told rows (g.met.T.Tree.ruled t) _ c.args.i c.is_part-part.result is part c.with_line.ensures c.with_line-2.ensures
