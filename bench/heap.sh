@@ -4,8 +4,9 @@
 # Needs rustc and valgrind. Nothing here is part of the gate.
 set -e
 cd "$(dirname "$0")/.."
-rt staticlib bench_heap > target/bench-heap.log 2>&1
-rustc --edition 2024 -O -L native=target/staticlib -l static=bench_heap bench/heap.rs -o target/bench-heap
+mkdir -p target
+(cd crates/bench_heap && rt lib) > target/bench-heap.log 2>&1
+rustc --edition 2024 -O -L native=crates/bench_heap/out -l static=bench_heap bench/heap.rs -o target/bench-heap
 counted() {
     valgrind --tool=callgrind --callgrind-out-file=target/bench-heap.out --collect-atstart=no --toggle-collect="measured_$1" \
         target/bench-heap "$1" "$2" > /dev/null 2>&1
