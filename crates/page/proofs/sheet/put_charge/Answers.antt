@@ -8,7 +8,7 @@ use Rattle.page.proofs.sheet.put_charge.Goals as goal
 pub returns : goal.returns
 returns c =
     let short : length c.args.w.now.out.now < 2 ^ 64 = search rules in
-    let name = c.name.ensures.writes-name in
-    let cents = c.put-field.ensures in
+    let name = c.name.ensures.writes_name in
+    let cents = c.put_field.ensures in
     let all = writes_then short name (writes_then (still_short short name) cents c.byte.ensures.writes_byte) in
     subst (λ t. Writes t c.args.w.now c.byte.new.self) (two_pieces (spelled c.args.charged.name) c.args.charged.cents) all
