@@ -1,7 +1,6 @@
 // A fixing over a borrowed tree, and one over another.
-ghost use Rattle.std.specs.Prelude.{[], ◌∷◌};
+ghost use Rattle.std.specs.Prelude.{[], ◌∷◌, refl};
 ghost use Rattle.tree.specs.declared.line.Line.TheVariants as lines;
-ghost use Rattle.std.proofs.Common.{rules};
 
 use super::*;
 use tree::line::Part;
@@ -13,7 +12,7 @@ struct Lamp {}
 impl Tree for Lamp {
     ghost meaning = { λ _. record { line = lines.Part (record { rarity = 0; class = 0; discount = 0; price = 0 }); name = record { head = 65; tail = 0; len = 1 } } ∷ [] };
 
-    ghost ruled = { Prim.search rules };
+    ghost ruled = { λ _. refl };
 
     fn count(&self) -> usize {
         1
