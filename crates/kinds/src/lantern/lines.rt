@@ -1,7 +1,7 @@
 // The lines of a lantern, by arithmetic on their numbers.
 ghost use Rattle.std.specs.Prelude.{◌≡◌, ℕ, ◌+◌, ◌*◌, ◌<◌, ◌≤◌, length};
 ghost use Rattle.std.specs.List.{slice_get};
-ghost use Rattle.tree.specs.Holding.{top as top-line, holds};
+ghost use Rattle.tree.specs.Holding.{top as top_line, holds};
 ghost use Rattle.kinds.specs.Lanterns.{run, numbered, tier_line, last_line, lantern_row};
 ghost use Rattle.kinds.specs.LanternTrees.{rows_of, dark};
 
@@ -11,7 +11,7 @@ use tree::line::{Gate, Line, Name, Row};
 impl Lantern {
     // The line number of the top.
     pub fn top(&self) -> usize
-        ensures is_top { result ≡ top-line (rows_of self.now) }
+        ensures is_top { result ≡ top_line (rows_of self.now) }
         ensures holds_when_enough_tiers_are_dark { (s : ℕ) → holds (rows_of self.now) s result ≡ dark self.now s }
     {
         self.all_lamps() + self.tiers as usize
@@ -29,7 +29,7 @@ impl Lantern {
     fn all_lamps(&self) -> usize
         ensures value { result ≡ self.now.tiers * self.now.lamps }
         ensures small { result + self.now.tiers < 64 }
-        ensures to_top { result + self.now.tiers ≡ top-line (rows_of self.now) }
+        ensures to_top { result + self.now.tiers ≡ top_line (rows_of self.now) }
         ensures to_end { result + self.now.tiers + 1 ≡ length (rows_of self.now) }
         ensures top_holds { (s : ℕ) → holds (rows_of self.now) s (result + self.now.tiers) ≡ dark self.now s }
     {
