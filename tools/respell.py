@@ -3,9 +3,10 @@
 
 usage: python3 tools/respell.py     at the top of the repository, once, after the toolchain's own script
 
-It takes the names that specs/ and the lemma files of proofs/ declare, or bind by `let`, and that have a dash, and writes them anew in every .rt and
-.antt file. Names of the library, names that the prover makes (goals and steps) and functions of src/ stay. A name may be that of a function that it speaks of. It prints
-what falls together otherwise, and then changes nothing.
+It takes the names that specs/ and the lemma files of proofs/ declare and that have a dash, and writes them anew in every .rt
+and .antt file. Names of the library, names that the prover makes (goals and steps), names bound inside a proof and functions
+of src/ stay. A name may be that of a function that it speaks of. It prints what falls together otherwise, and then changes
+nothing.
 """
 import collections
 import glob
@@ -13,7 +14,6 @@ import re
 
 TOKEN = re.compile(r"[^\s(){}\[\],;:.«»=λ→×⊎⟦⟧\"`]+")
 DECLARED = re.compile(r"^\s*(?:abbrev |unfoldable |pub )*(?:data |record )?([^\s(){}\[\],;:.]*[A-Za-z][^\s(){}\[\],;:.]*)\s*(?:\{[^}]*\}\s*|\([^)]*\)\s*)*:(?!:)")
-BOUND = re.compile(r"\blet ([\w']+)\b(?=-)|\blet ([\w']+(?:-[\w']+)+)")
 # bound in a parameter, a pattern or an import
 MORE = ["Reads-exactly", "a-kind", "a-line", "charge-of", "in-d", "of-g", "p-in", "p-some", "q-in", "q-some", "s-at", "t-at", "has-line"]
 # a value whose name begins with a capital variable
@@ -57,8 +57,6 @@ def declared(lemmas):
             m = DECLARED.match(line)
             if m and "-" in m.group(1):
                 names.add(m.group(1))
-            for m in BOUND.finditer(line):
-                names.add(m.group(1) or m.group(2))
     return {n for n in names if "-" in n or n in VALUES}
 
 
