@@ -2,6 +2,7 @@
 -- below their gate. The laws above this definition: a part holds exactly when it is in the set, a gate exactly when at
 -- least `need` of its children hold.
 use Rattle.std.specs.Prelude.{◌≡◌, ℕ, zero, suc, ◌-◌, ◌^◌, Bool, cond, List, [], ◌∷◌, length, bit_and, bit_or, count_ones, nat_le}
+use Rattle.tree.specs.Lines.{never}
 use Rattle.tree.specs.Sets.{has, ◌⊆◌}
 use Rattle.tree.specs.declared.line.Part.{Part}
 use Rattle.tree.specs.declared.line.Gate.{Gate}
@@ -11,7 +12,7 @@ use Rattle.tree.specs.declared.line.Row.{Row}
 
 -- line i; past the last line, a gate that never holds
 abbrev pub the_line : List Row → ℕ → Line
-the_line [] i = line.Gate (record { children = 0; need = 1 })
+the_line [] i = never
 the_line (r ∷ rs) zero = r.line
 the_line (r ∷ rs) (suc i) = the_line rs i
 

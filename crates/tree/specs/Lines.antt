@@ -16,3 +16,11 @@ name_at rows i = option_map (λ r. r.name) (slice_get rows i)
 abbrev pub part_line : Line → Bool
 part_line (line.Part p) = true
 part_line (line.Gate g) = false
+
+-- a gate that never holds
+abbrev pub never : Line
+never = line.Gate (record { children = 0; need = 1 })
+
+-- the name A
+abbrev pub first_name : Name
+first_name = record { head = 65; tail = 0; len = 1 }

@@ -26,18 +26,11 @@ pub trait Tree {
     ghost ruled: { (t : Self) → keeps_rules (meaning t) ≡ true };
 }
 
-// The count, with what is known of the tree's lines.
-fn counted<T: Tree>(tree: &T) -> usize
-    ensures count { result ≡ length (T.Tree.meaning tree.now) }
-    ensures laws { HoldingLaws (T.Tree.meaning tree.now) }
-{
-    tree.count()
-}
-
 // The number of the top: the light is out when that line holds.
+#[tactic(auto, using(crate::proofs::Holding::holding_laws))]
 pub fn top_of<T: Tree>(tree: &T) -> usize
     ensures is_last_line { result ≡ top (T.Tree.meaning tree.now) }
     ensures lines_hold_by_their_laws { HoldingLaws (T.Tree.meaning tree.now) }
 {
-    counted(tree).saturating_sub(1)
+    tree.count().saturating_sub(1)
 }
