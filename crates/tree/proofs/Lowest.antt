@@ -169,3 +169,11 @@ apart_word k s t h l n = sym (lowest_word k (bit_xor s t) (not_none s t n) (xor_
 pub le_by_line : (s t i : ℕ) → s ≢ t → i ≡ lowest (bit_xor s t) → has s i ≡ set_le s t
 unfolding set_le
 le_by_line s t i n e = ap (has s) e ∙ sym (ap (λ b. b || has s (lowest (bit_xor s t))) (ne_eqb s t n))
+
+-- ---- at the machine's width
+
+pub same_first : (a b : ℕ) → a ≡ b → eqb a b ≡ set_le a b
+same_first a b e = eq-eqb a b e ∙ sym (set_le_refl a b e)
+
+pub lowest_apart : (a b : ℕ) → a < 18446744073709551616 → b < 18446744073709551616 → a ≢ b → has a (count_trailing_zeros 64 (bit_xor a b)) ≡ set_le a b
+lowest_apart a b h k n = le_by_line a b _ n (apart_word 64 a b h k n)

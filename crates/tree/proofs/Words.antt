@@ -1,13 +1,13 @@
 -- Sets as words of a width: how many lines, what is within what, and the highest line, by the machine's operations.
-use Rattle.std.proofs.Common.{◌≡◌, ℕ, zero, suc, ◌+◌, ◌-◌, ◌/◌, ◌%◌, ◌^◌, ◌<◌, ◌≤◌, Bool, true, false, cond, not, ◌&&◌, eqb, ltb, ◌≢◌, ◌⊎◌, sym, refl, ap, ◌∙◌, subst, inl, inr, ⊎_elim, arith, pow_mono}
+use Rattle.std.proofs.Common.{rules, ◌*◌, ◌≡◌, ℕ, zero, suc, ◌+◌, ◌-◌, ◌/◌, ◌%◌, ◌^◌, ◌<◌, ◌≤◌, Bool, true, false, cond, not, ◌&&◌, eqb, ltb, ◌≢◌, ◌⊎◌, sym, refl, ap, ◌∙◌, subst, inl, inr, ⊎_elim, arith, pow_mono}
 use lib.Arith.{bin_ind}
 use lib.Bits.{bit_and}
 use lib.Count.{ones, count_leading_zeros, leading_top}
-use Rattle.std.proofs.lemmas.Bool.{eqb-true, eqb-false, eq-eqb, both_ways, cases_Bool, cases_order}
+use Rattle.std.proofs.lemmas.Bool.{eqb-true, eqb-false, eq-eqb, both_ways, cases_Bool, cases_order, le-ltb}
 use Rattle.std.proofs.lemmas.Bool.Decides.{nat_tests}
 use Rattle.tree.specs.Sets.{has, ◌⊆◌, within, Counts, Tells, Highest}
 use Rattle.tree.proofs.Holding.{lt_below}
-use Rattle.tree.proofs.Sets.{same_test, has_zero, has_suc, has_none, has_pow, has_le, below_lt, empty, in_meet, meet_left, meet_right, within_sub, sub_within, ones_none, one_more}
+use Rattle.tree.proofs.Sets.{same_test, has_zero, has_suc, has_none, has_pow, has_le, has_mask, has_past, below_lt, empty, in_meet, meet_left, meet_right, within_sub, sub_within, ones_none, one_more}
 
 pub ones_count : Counts ones
 ones_count = record { none = ones_none; one_more = one_more }
@@ -90,3 +90,22 @@ has_alone w i j = go (ltb i w) (eqb j i) (has_pow i j)
     go true false h = h
     go false true h = has_none j
     go false false h = has_none j
+
+-- ---- at the machine's width
+
+pub has_word : (s i : ℕ) → i < 64 → eqb (bit_and (s / 2 ^ i) 1) 1 ≡ has s i
+has_word s i l = has_mask s i
+
+pub none_past : (s i : ℕ) → s < 18446744073709551616 → 64 ≤ i → has s i ≡ false
+none_past = has_past 64
+
+pub alone_word : (i j : ℕ) → i < 64 → has (1 * 2 ^ i % 18446744073709551616) j ≡ (eqb j i && ltb i 64)
+alone_word i j l =
+    let same : 1 * 2 ^ i % 18446744073709551616 ≡ cond (ltb i 64) (2 ^ i) 0 = search rules in
+    ap (λ s. has s j) same ∙ has_alone 64 i j
+
+pub alone_past : (i j : ℕ) → 64 ≤ i → has 0 j ≡ (eqb j i && ltb i 64)
+alone_past i j l = ap (λ t. has (cond t (2 ^ i) 0) j) (sym (le-ltb i 64 l)) ∙ has_alone 64 i j
+
+pub within_test : (a b : ℕ) → a < 18446744073709551616 → b < 18446744073709551616 → eqb (bit_and a (18446744073709551615 - b)) 0 ≡ within a b
+within_test = within_word 64

@@ -1,9 +1,10 @@
 // A set of lines is a 64-bit word: bit i stands for line i. A word has no bit for a line from the 64th on.
-ghost use Rattle.std.specs.Prelude.{◌≡◌, ℕ, ◌&&◌, ◌||◌, MatchOption, ◌==◌, bit_or, count_ones, nat_lt};
+ghost use Rattle.std.specs.Prelude.{◌≡◌, ℕ, ◌&&◌, ◌||◌, ◌≢◌, MatchOption, ◌==◌, bit_or, count_ones, nat_lt};
 ghost use Rattle.orders.specs.Orders.{Total};
 ghost use Rattle.tree.specs.Sets.{has as has_line, alone, ◌⊆◌, within, Counts, Tells, Highest, set_le, ComesFirst};
 
 // Whether the set has line i.
+#[tactic(auto, using(crate::proofs::Words::has_word, crate::proofs::Words::none_past))]
 pub fn has(set: u64, i: usize) -> bool
     ensures tells_members { result ≡ has_line set i }
 {
@@ -11,6 +12,7 @@ pub fn has(set: u64, i: usize) -> bool
 }
 
 // The set of line i alone; empty where no word has that line.
+#[tactic(auto, using(crate::proofs::Words::alone_word, crate::proofs::Words::alone_past))]
 pub fn alone(i: usize) -> u64
     ensures is_one_line { result ≡ alone i }
     ensures has_that_line_only { (j : ℕ) → has_line result j ≡ (j == i && nat_lt i 64) }
@@ -37,6 +39,7 @@ pub fn union(a: u64, b: u64) -> u64
 }
 
 // Whether every line of a is in b.
+#[tactic(auto, using(crate::proofs::Words::within_test, crate::proofs::Words::within_tells))]
 pub fn is_within(a: u64, b: u64) -> bool
     ensures is_the_test { result ≡ within a b }
     ensures tells_containment { Tells result (a ⊆ b) }
@@ -44,18 +47,22 @@ pub fn is_within(a: u64, b: u64) -> bool
     a & !b == 0
 }
 
+fn top_line(set: u64) -> usize
+    requires { set ≢ 0 }
+    ensures { Highest set result }
+{
+    63 - set.leading_zeros() as usize
+}
+
 // The highest line of the set, if it has one.
 pub fn highest(set: u64) -> Option<usize>
     ensures is_the_highest_line { MatchOption result (set ≡ 0) (λ g. Highest set g) }
 {
-    if set == 0 {
-        None
-    } else {
-        Some(63 - set.leading_zeros() as usize)
-    }
+    if set == 0 { None } else { Some(top_line(set)) }
 }
 
 // Whether a is b or has the lowest line in which the two differ: by it the order of sets goes.
+#[tactic(auto, using(crate::proofs::Lowest::same_first, crate::proofs::Lowest::lowest_apart, crate::proofs::Lowest::le_decides, crate::proofs::Lowest::set_order))]
 pub fn comes_first(a: u64, b: u64) -> bool
     ensures is_the_order { result ≡ set_le a b }
     ensures by_the_lowest_line { ComesFirst a b result }
