@@ -2,7 +2,7 @@
 // input is refused; a refused input ends the program with status 1.
 #![tactic(auto)]
 
-use page::answer::{INPUT_BYTES, PAGE_BYTES, answer};
+use page::answer::{INPUT_BYTES, PAGE_BYTES, Written, answer};
 use std::io::{Read, Write};
 use std::process::ExitCode;
 
@@ -11,11 +11,10 @@ fn main(rt: HostRuntime) -> anyhow::Result<ExitCode> {
     rt.stdin().take(INPUT_BYTES as u64).read_to_end(&mut input)?;
     let mut page = vec![in rt.alloc(); 0u8; PAGE_BYTES]?;
     let written = answer(input.as_slice(), page.as_mut_slice());
-    let end = written.len.min(page.len());
-    rt.stdout().write_all(&page[0..end])?;
-    if written.refused {
-        Ok(ExitCode::FAILURE)
-    } else {
-        Ok(ExitCode::SUCCESS)
-    }
+    let end = written.len().min(page.len());
+    rt.stdout().write_all(&page[..end])?;
+    Ok(match written {
+        Written::Sheet(_) => ExitCode::SUCCESS,
+        Written::Refusal(_) => ExitCode::FAILURE,
+    })
 }

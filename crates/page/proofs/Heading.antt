@@ -5,24 +5,6 @@ use Rattle.std.proofs.lemmas.Bool.{both_ways, eqb-true, or_right}
 use Rattle.tabbed_text.specs.Fields.{up_to, after}
 use Rattle.page.specs.Orders.{line_within}
 
-pub within_more : (n : ℕ) (bs : List ℕ) (i : ℕ) → i < n → i < length bs
-    → line_within (n - i) (drop i bs) ≡ (eqb (get_or bs i 0) 10 || line_within (n - (i + 1)) (drop (i + 1) bs))
-within_more n bs i h k =
-    let e : n - i ≡ suc (n - (i + 1)) = omega arith in
-    ap (λ m. line_within m (drop i bs)) e ∙ at_drop_more (line_within (suc (n - (i + 1)))) bs i 0 k
-
-none_left : (n : ℕ) → line_within n [] ≡ false
-none_left zero = refl
-none_left (suc n) = refl
-
-pub within_all : (n : ℕ) (bs : List ℕ) (i : ℕ) → length bs ≤ i → line_within (n - i) (drop i bs) ≡ false
-within_all n bs i h = at_drop_all (line_within (n - i)) bs i h ∙ none_left (n - i)
-
-pub within_none : (n : ℕ) (bs : List ℕ) (i : ℕ) → n ≤ i → line_within (n - i) (drop i bs) ≡ false
-within_none n bs i h = let e : n - i ≡ 0 = omega arith in ap (λ m. line_within m (drop i bs)) e
-
--- ---- the line that byte 10 ends
-
 whole_cons : (n b : ℕ) (bs : List ℕ) (t : Bool) → eqb b 10 ≡ t → (t || line_within n bs) ≡ true → (line_within n bs ≡ true → bs ≡ up_to 10 bs ++ (10 ∷ after 10 bs))
     → b ∷ bs ≡ up_to 10 (b ∷ bs) ++ (10 ∷ after 10 (b ∷ bs))
 whole_cons n b bs true f e more = let is = eqb-true b 10 f in simp f (ap (λ x. x ∷ bs) is)

@@ -1,7 +1,8 @@
 -- The order line, by its questions in the order in which they are asked: is there a byte 10 among the first 32 bytes,
 -- with exactly four fields before it, and is each field right, from the left?
-use Rattle.std.specs.Prelude.{ℕ, zero, suc, Bool, false, cond, ◌||◌, List, [], ◌∷◌, Some, None, Ok, Err, Option, Result, ◌==◌}
+use Rattle.std.specs.Prelude.{ℕ, Bool, cond, take, List, [], ◌∷◌, Some, None, Ok, Err, Option, Result, ◌==◌}
 use Rattle.std.specs.Option.{ok_or}
+use Rattle.std.specs.List.{list_any}
 use Rattle.station_file.specs.Files.{read_file}
 use Rattle.tree.specs.declared.line.Row.{Row}
 use Rattle.tabbed_text.specs.Fields.{fields_of, after}
@@ -16,9 +17,7 @@ use Rattle.page.specs.declared.order.Order.{Order}
 
 -- whether byte 10 stands among the first n bytes
 abbrev pub line_within : ℕ → List ℕ → Bool
-line_within zero bs = false
-line_within (suc n) [] = false
-line_within (suc n) (b ∷ bs) = b == 10 || line_within n bs
+line_within n bs = list_any (λ b. b == 10) (take n bs)
 
 -- P, R, C and S
 abbrev pub criterion_of : List ℕ → Option Criterion

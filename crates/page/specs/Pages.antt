@@ -68,10 +68,10 @@ abbrev pub sheet_of : List ℕ → Result (List ℕ) PageFault
 sheet_of bs = then (task_read bs) (λ task. Ok (sheet task.0.year task.0.growth task.1))
 
 -- what is answered where a text is to be written, and what the page bytes then hold
-abbrev pub answered : Result (List ℕ) PageFault → List ℕ → Result ℕ PageFault
+unfoldable pub answered : Result (List ℕ) PageFault → List ℕ → Result ℕ PageFault
 answered (Ok text) out = ok_or (room_for text out) (page_fault 0 0 NoRoom)
 answered (Err f) out = Err f
 
-abbrev pub left_in : Result (List ℕ) PageFault → List ℕ → List ℕ
+unfoldable pub left_in : Result (List ℕ) PageFault → List ℕ → List ℕ
 left_in (Ok text) out = with_text text out
 left_in (Err f) out = out

@@ -1,9 +1,8 @@
 // What the program writes for an input: the charge sheet, or the line that says why it is refused.
-ghost use Rattle.std.specs.Prelude.{◌≡◌, Err, MatchResult};
-ghost use Rattle.page.specs.Answers.{reply, replied, written_for, Sent, Kept};
+ghost use Rattle.std.specs.Prelude.{◌≡◌};
+ghost use Rattle.page.specs.Answers.{length_of, reply, replied, written_for};
 ghost use Rattle.page.specs.Pages.{sheet_of};
 
-use crate::faults::PageFault;
 use crate::refused::write_refused;
 use crate::sheet::charge_sheet;
 
@@ -12,43 +11,32 @@ pub const INPUT_BYTES: usize = 20_000;
 
 pub const PAGE_BYTES: usize = 57_344;
 
-// How many bytes were written, and whether they refuse the input.
-#[derive(Clone, Copy)]
-pub struct Written {
-    pub len: usize,
-    pub refused: bool,
+// What was written: so many bytes of the sheet, or of the line that refuses the input.
+#[derive(Clone, Copy, PartialEq, Eq)]
+pub enum Written {
+    Sheet(usize),
+    Refusal(usize),
 }
 
-fn refuse(fault: PageFault, out: &mut [u8]) -> Written
-    ensures told { result ≡ written_for (Err fault) out.old }
-    ensures bytes { out.new ≡ replied (Err fault) out.old }
-{
-    match write_refused(fault, out) {
-        Ok(len) => Written { len, refused: true },
-        Err(_) => Written {
-            len: 0,
-            refused: true,
-        },
+impl Written {
+    // How many bytes were written.
+    pub fn len(self) -> usize
+        ensures counts_the_bytes { result ≡ length_of self }
+    {
+        match self {
+            Written::Sheet(len) | Written::Refusal(len) => len,
+        }
     }
 }
 
-// The sheet, told by what the answer to the input makes of it.
-fn attempt(input: &[u8], out: &mut [u8]) -> Result<usize, PageFault>
-    ensures { MatchResult result (λ n. Sent n (reply (sheet_of input.now) out.old) out.old out.new) (λ f. Kept f (reply (sheet_of input.now) out.old) out.old out.new) }
-{
-    charge_sheet(input, out)
-}
-
 // Writes the sheet where there is one and it fits, else the refused line, and nothing where that does not fit either.
+#[tactic(auto, using(crate::proofs::Replies::replies))]
 pub fn answer(input: &[u8], out: &mut [u8]) -> Written
     ensures tells_what_is_written { result ≡ written_for (reply (sheet_of input.now) out.old) out.old }
     ensures writes_answer { out.new ≡ replied (reply (sheet_of input.now) out.old) out.old }
 {
-    match attempt(input, out) {
-        Ok(len) => Written {
-            len,
-            refused: false,
-        },
-        Err(fault) => refuse(fault, out),
+    match charge_sheet(input, out) {
+        Ok(len) => Written::Sheet(len),
+        Err(fault) => Written::Refusal(write_refused(fault, out).unwrap_or(0)),
     }
 }

@@ -1,11 +1,11 @@
 // Why a page is refused, and where.
 ghost use Rattle.std.specs.Prelude.{◌≡◌};
-ghost use Rattle.page.specs.Faults.{raised};
+ghost use Rattle.page.specs.Faults.{raised, page_fault};
 
 use station_file::faults::{FieldCause, StationCause, StationFault, StationLayer};
 
 // The page layer.
-#[derive(Clone, Copy)]
+#[derive(Clone, Copy, PartialEq, Eq)]
 pub enum PageCause {
     NoOrder,
     OrderField,
@@ -27,6 +27,16 @@ pub struct PageFault {
     pub line: usize,
     pub field: usize,
     pub layer: PageLayer,
+}
+
+impl PageCause {
+    // The fault of that line and field.
+    pub fn at(self, line: usize, field: usize) -> PageFault
+        ensures says_where { result ≡ page_fault line field self }
+    {
+        let layer = PageLayer::Page(self);
+        PageFault { line, field, layer }
+    }
 }
 
 impl From<StationFault> for PageFault {

@@ -8,7 +8,7 @@ ghost use Rattle.page.specs.Tasks.{DecidesTask, ReadsTaskExactly};
 ghost use Rattle.page.specs.Faults.{page_fault};
 ghost use Rattle.page.specs.declared.faults.PageCause.TheVariants.{NoOrder};
 
-use crate::faults::{PageCause, PageFault, PageLayer};
+use crate::faults::{PageCause, PageFault};
 use station_file::read_tree::ReadTree;
 use station_file::reader::read;
 use tabbed_text::fields::Fields;
@@ -50,36 +50,20 @@ fn criterion_of(field: &[u8]) -> Option<Criterion>
 fn has_line(input: &[u8]) -> bool
     ensures { result ≡ line_within 32 input.now }
 {
-    for i in 0..32 {
-        if i >= input.len() {
-            return false;
-        }
-        if input[i] == b'\n' {
-            return true;
-        }
-    }
-    false
+    input.iter().take(32).any(|b| *b == b'\n')
 }
 
 fn order_number(bytes: &[u8], low: u32, high: u32, field: usize) -> Result<u32, PageFault>
     ensures value { result ≡ order_number low high field bytes.now }
     ensures within { IfOk result (λ n. n ≤ high) }
 {
-    number(bytes, low, high).ok_or(PageFault {
-        line: 1,
-        field,
-        layer: PageLayer::Page(PageCause::OrderField),
-    })
+    number(bytes, low, high).ok_or(PageCause::OrderField.at(1, field))
 }
 
 fn criterion_field(bytes: &[u8]) -> Result<Criterion, PageFault>
     ensures { result ≡ criterion_field bytes.now }
 {
-    criterion_of(bytes).ok_or(PageFault {
-        line: 1,
-        field: 3,
-        layer: PageLayer::Page(PageCause::OrderField),
-    })
+    criterion_of(bytes).ok_or(PageCause::OrderField.at(1, 3))
 }
 
 #[derive(Clone, Copy)]
@@ -131,11 +115,7 @@ fn order_line(walk: &mut Fields) -> Result<Order, PageFault>
     ensures value { result ≡ order_line (fields_of (remains walk.old)) }
 {
     let Some(f) = four_fields(walk) else {
-        return Err(PageFault {
-            line: 1,
-            field: 0,
-            layer: PageLayer::Page(PageCause::NoOrder),
-        });
+        return Err(PageCause::NoOrder.at(1, 0));
     };
     order_values(f)
 }
@@ -147,11 +127,7 @@ fn read_order(input: &[u8]) -> Result<Order, PageFault>
     ensures decides { DecidesTask input.now result }
 {
     if !has_line(input) {
-        return Err(PageFault {
-            line: 1,
-            field: 0,
-            layer: PageLayer::Page(PageCause::NoOrder),
-        });
+        return Err(PageCause::NoOrder.at(1, 0));
     }
     let mut walk = Fields::new(input);
     order_line(&mut walk)

@@ -1,8 +1,7 @@
 // The line that says why a page is refused.
 ghost use Rattle.std.specs.Prelude.{◌≡◌, ◌∷◌, Ok, decimal};
 ghost use Rattle.tabbed_text.specs.Writing.{Writes};
-ghost use Rattle.page.specs.Faults.{number_of, layer_of, page_fault};
-ghost use Rattle.page.specs.declared.faults.PageCause.TheVariants.{NoRoom};
+ghost use Rattle.page.specs.Faults.{number_of, layer_of};
 ghost use Rattle.station_file.specs.Faults.{station_number};
 ghost use Rattle.page.specs.Pages.{refused_line, answered, left_in};
 
@@ -71,21 +70,11 @@ impl Text for PageFault {
     }
 }
 
-// A text that does not fit the page bytes.
-pub(crate) fn no_room() -> PageFault
-    ensures { result ≡ page_fault 0 0 NoRoom }
-{
-    PageFault {
-        line: 0,
-        field: 0,
-        layer: PageLayer::Page(PageCause::NoRoom),
-    }
-}
-
 // Writes the line of a refused page, or nothing where the bytes do not suffice.
+#[tactic(auto, unfolding(crate::specs::Pages::answered, crate::specs::Pages::left_in))]
 pub fn write_refused(fault: PageFault, out: &mut [u8]) -> Result<usize, PageFault>
     ensures answers_length { result ≡ answered (Ok (refused_line fault)) out.old }
     ensures writes_refused_line { out.new ≡ left_in (Ok (refused_line fault)) out.old }
 {
-    write_whole(&fault, out).ok_or(no_room())
+    write_whole(&fault, out).ok_or(PageCause::NoRoom.at(0, 0))
 }

@@ -5,9 +5,9 @@ ghost use Rattle.tabbed_text.specs.Writing.{Writes};
 ghost use Rattle.station_file.specs.Trees.{rows_of};
 ghost use Rattle.page.specs.Pages.{charged_at, charge_line, row_text, total_cost, sheet, sheet_of, answered, left_in};
 
-use crate::faults::PageFault;
+use crate::faults::{PageCause, PageFault};
 use crate::order::read_task;
-use crate::refused::{no_room, put_field};
+use crate::refused::put_field;
 use ranking::charge::charge;
 use ranking::terms::Terms;
 use station_file::read_tree::ReadTree;
@@ -82,6 +82,7 @@ impl Text for Sheet<'_> {
 
 // Writes the charge sheet that the input asks for, and answers its length; where the input or the room is refused, no
 // byte is written.
+#[tactic(auto, unfolding(crate::specs::Pages::answered, crate::specs::Pages::left_in))]
 pub fn charge_sheet(input: &[u8], out: &mut [u8]) -> Result<usize, PageFault>
     ensures answers_length { result ≡ answered (sheet_of input.now) out.old }
     ensures writes_sheet { out.new ≡ left_in (sheet_of input.now) out.old }
@@ -91,5 +92,5 @@ pub fn charge_sheet(input: &[u8], out: &mut [u8]) -> Result<usize, PageFault>
     let Ok(terms) = Terms::new(order.year, order.growth) else {
         unreachable()
     };
-    write_whole(&Sheet { tree: &tree, terms }, out).ok_or(no_room())
+    write_whole(&Sheet { tree: &tree, terms }, out).ok_or(PageCause::NoRoom.at(0, 0))
 }
