@@ -59,3 +59,23 @@ module _ {E : Type 0} (p q : E → E → Bool) where
         ranked = lex_ranked o u.ranked;
         antisymmetric = λ a b h k. let both = lex_both a b h k in u.antisymmetric a b both.2 both.3;
       }
+
+pub same_pair : {A B : Type 0} (a b : A × B) → a.0 ≡ b.0 → a.1 ≡ b.1 → a ≡ b
+same_pair (x, y) (z, w) e f = cc
+
+-- pairs, by what stands first and then by what stands second
+module _ {A B : Type 0} (p : A → A → Bool) (q : B → B → Bool) where
+  abbrev first : A × B → A × B → Bool
+  first = by (λ w. w.0) p
+
+  abbrev second : A × B → A × B → Bool
+  second = by (λ w. w.1) q
+
+  pub pair_total : Total p → Total q → Total (lex first second)
+  pair_total o u =
+      record {
+        ranked = lex_ranked first second (by_ranked (λ (w : A × B). w.0) p o.ranked) (by_ranked (λ (w : A × B). w.1) q u.ranked);
+        antisymmetric = λ a b h k.
+            let (x, y, z, w) = lex_both first second a b h k in
+            same_pair a b (o.antisymmetric a.0 b.0 x y) (u.antisymmetric a.1 b.1 z w);
+      }

@@ -18,3 +18,7 @@ lex p q a b = cond (p a b) (cond (p b a) (q a b) true) false
 -- by what f makes of each
 abbrev pub by : {E K : Type 0} → (E → K) → (K → K → Bool) → E → E → Bool
 by f le a b = le (f a) (f b)
+
+-- the test answers as le does; `told` is what a call of the test may answer
+abbrev pub Answers : {E : Type 0} → (E → E → Bool → Type 0) → (E → E → Bool) → Type 0
+Answers {E} told le = (a b : E) (r : Bool) → told a b r → r ≡ le a b

@@ -1,9 +1,8 @@
 -- How far prices grow, and that each is the least whole number of cents.
-use Rattle.std.proofs.Common.{◌≡◌, ℕ, zero, suc, ◌+◌, ◌-◌, ◌*◌, ◌/◌, ◌^◌, ◌<◌, ◌≤◌, eqb, sym, refl, ap, ◌∙◌, subst, mul-le-mul_left, pow-suc, mul-add, add-one, arith, lit<}
+use Rattle.std.proofs.Common.{◌≡◌, ℕ, zero, suc, ◌+◌, ◌-◌, ◌*◌, ◌/◌, ◌^◌, ◌<◌, ◌≤◌, refl, ap, ◌∙◌, mul-le-mul_left, pow-suc, mul-add, add-one, arith, lit<}
 use native.Mathlib.Nat.{mul-sub, pow-le-pow_right}
-use Rattle.std.proofs.lemmas.Bool.{eq-eqb, ne_eqb, cond-true, cond-false, cond_both}
 use Rattle.tree.specs.declared.line.Part.{Part}
-use Rattle.ranking.specs.Charges.{rise, grown, discounted, charge, LeastCents, InWholeCents}
+use Rattle.ranking.specs.Charges.{rise, grown, discounted, LeastCents, InWholeCents}
 
 -- a fifth a year at most doubles a price
 rise_within : (growth price : ℕ) → growth ≤ 200 → rise growth price ≤ price
@@ -17,19 +16,17 @@ grown_within price growth (suc i) h =
     let twice : 2 ^ suc i ≡ 2 ^ i + 2 ^ i = omega (arith, pow-suc 2 i) in
     omega (arith, ap (λ k. price * k) twice ∙ mul-add price (2 ^ i) (2 ^ i))
 
--- within ten years there is room in 64 bits for the price, and for one more rise
+-- within ten years a price stays far below 64 bits
+pub grown_below : (price growth i : ℕ) → price < 2 ^ 32 → growth ≤ 200 → i ≤ 10 → grown price growth i < 2 ^ 42
+grown_below price growth i p g h =
+    let few : 2 ^ i ≤ 2 ^ 10 = pow-le-pow_right {n = 2} (lit< tt) h in
+    omega (arith, grown_within price growth i g, mul-le-mul_left price few)
+
+-- so there is room in 64 bits for one more rise
 pub room : (price growth i cents : ℕ) → cents ≡ grown price growth i → price < 2 ^ 32 → growth ≤ 200 → i ≤ 10 → (cents * growth + 999 < 2 ^ 64) × (cents + rise growth cents < 2 ^ 64)
 room price growth i cents e p g h =
-    let few : 2 ^ i ≤ 2 ^ 10 = pow-le-pow_right {n = 2} (lit< tt) h in
-    let small : cents < 2 ^ 42 = omega (arith, grown_within price growth i g, mul-le-mul_left price few) in
+    let small = grown_below price growth i p g h in
     (omega (arith, mul-le-mul_left cents g), omega (arith, rise_within growth cents g))
-
-pub charge_below : (year growth : ℕ) (part : Part) → part.price < 2 ^ 32 → growth ≤ 200 → year ≤ 10 → charge year growth part < 2 ^ 42
-charge_below year growth part p g h =
-    let few : 2 ^ year ≤ 2 ^ 10 = pow-le-pow_right {n = 2} (lit< tt) h in
-    let now : discounted part < 2 ^ 42 = omega arith in
-    let later : grown part.price growth year < 2 ^ 42 = omega (arith, grown_within part.price growth year g, mul-le-mul_left part.price few) in
-    cond_both (eqb year 0) (discounted part) (grown part.price growth year) (λ n. n < 2 ^ 42) (λ _. now) (λ _. later)
 
 pub grown_more : (price growth i cents more : ℕ) → cents ≡ grown price growth i → more ≡ rise growth cents → cents + more ≡ grown price growth (i + 1)
 grown_more price growth i cents more e f = cc (ap (grown price growth) (add-one i))
@@ -45,12 +42,21 @@ least_discounted price discount h =
     let most = mul-le-mul_left price h in
     record { not_below = omega arith; least = λ m l. omega arith }
 
-pub whole_cents : (year growth : ℕ) (part : Part) (r : ℕ) → r ≡ charge year growth part → InWholeCents year growth part r
-whole_cents year growth part r e =
-    record {
-      from_list_price = refl;
-      from_year_to_year = λ i. least_risen (grown part.price growth i) growth;
-      less_discount_in_year_zero = λ now h.
-          subst (LeastCents (part.price * (1000 - part.discount))) (sym (e ∙ cond-true _ (discounted part) (grown part.price growth year) (eq-eqb year 0 now))) (least_discounted part.price part.discount h);
-      grown_in_later_years = λ later. e ∙ cond-false _ (discounted part) (grown part.price growth year) (ne_eqb year 0 (λ z. omega arith));
-    }
+module _ (year growth : ℕ) (part : Part) (r : ℕ) where
+  pub whole_now : year ≡ 0 → r ≡ discounted part → InWholeCents year growth part r
+  whole_now now e =
+      record {
+        from_list_price = refl;
+        from_year_to_year = λ i. least_risen (grown part.price growth i) growth;
+        less_discount_in_year_zero = λ n h. rw e (least_discounted part.price part.discount h);
+        grown_in_later_years = λ later. absurd (omega arith);
+      }
+
+  pub whole_later : 0 < year → r ≡ grown part.price growth year → InWholeCents year growth part r
+  whole_later later e =
+      record {
+        from_list_price = refl;
+        from_year_to_year = λ i. least_risen (grown part.price growth i) growth;
+        less_discount_in_year_zero = λ now h. absurd (omega arith);
+        grown_in_later_years = λ n. e;
+      }

@@ -146,7 +146,7 @@ module _ {W : Type 0} (m : Model W) (p : Lawful m) where
     unfolding weigh
     part_alone i part e = past_one i (length rows) (part_in rows i part e) ∙ ap (line_weight m charge_of) e
 
-    one_more : (s i : ℕ) (part : Part) → has s i ≡ false → the_line rows i ≡ line.Part part → weigh m charge_of rows (bit_or s (2 ^ i)) ≡ m.join (weigh m charge_of rows s) (m.of_part part (charge_of part))
+    pub one_more : (s i : ℕ) (part : Part) → has s i ≡ false → the_line rows i ≡ line.Part part → weigh m charge_of rows (bit_or s (2 ^ i)) ≡ m.join (weigh m charge_of rows s) (m.of_part part (charge_of part))
     one_more s i part h e =
         in_two s (bit_or s (2 ^ i)) (in_left s (2 ^ i))
         ∙ ap (m.join (weigh m charge_of rows s)) (ap (weigh m charge_of rows) (rest_of_more s i h) ∙ part_alone i part e)

@@ -1,5 +1,5 @@
 -- What a ranking means: the weights of parts, how weights are joined, and which of two weights comes first.
-use Rattle.std.specs.Prelude.{◌≡◌, ℕ, ◌+◌, min, max, Bool, true, nat_le}
+use Rattle.std.specs.Prelude.{◌≡◌, ℕ, ◌+◌, ◌≤◌, min, max, Bool, true, nat_le}
 use Rattle.tree.specs.declared.line.Part.{Part}
 use Rattle.orders.specs.Orders.{Total, lex, by}
 
@@ -24,9 +24,20 @@ pub record Lawful {W : Type 0} (m : Model W) : Type 0 where
 abbrev pub stopped : ℕ → ℕ → ℕ
 stopped a b = max (max a b) (min (a + b) 18446744073709551615)
 
+-- how numbers are joined so that a ranking may go by them
+pub record LawfulJoin (join : ℕ → ℕ → ℕ) : Type 0 where
+  pub commutative : (a b : ℕ) → join a b ≡ join b a
+  pub associative : (a b c : ℕ) → join (join a b) c ≡ join a (join b c)
+  pub unit : (a : ℕ) → join 0 a ≡ a
+  pub grows : (a b : ℕ) → a ≤ join a b
+
+-- by a number that each part counts: the smaller comes first
+abbrev pub by_number : (Part → ℕ → ℕ) → (ℕ → ℕ → ℕ) → Model ℕ
+by_number counted join = record { zero = 0; of_part = counted; join = join; le = nat_le }
+
 -- the sum of what the parts count
 abbrev pub summed : (Part → ℕ → ℕ) → Model ℕ
-summed counted = record { zero = 0; of_part = counted; join = stopped; le = nat_le }
+summed counted = by_number counted stopped
 
 abbrev pub price : Model ℕ
 price = summed (λ part charge. charge)
@@ -39,7 +50,7 @@ size = summed (λ part charge. 1)
 
 -- the worst class of the parts
 abbrev pub class : Model ℕ
-class = record { zero = 0; of_part = λ part charge. part.class; join = max; le = nat_le }
+class = by_number (λ part charge. part.class) max
 
 -- two weights side by side: the upper decides, and where it is the same the lower
 abbrev pub paired : {U L : Type 0} → Model U → Model L → Model (U × L)

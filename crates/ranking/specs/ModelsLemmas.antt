@@ -1,12 +1,11 @@
--- The laws of sums, of the larger of two, and of pairs.
+-- The laws of sums, of the larger of two, and of pairs. They stand in specs/ since a law that an impl in src/ gives can
+-- cite no proofs/ of its own crate.
 use Rattle.std.specs.Prelude.{◌≡◌, ℕ, ◌+◌, ◌≤◌, max, Bool, true, false, cond, refl}
 use Rattle.std.proofs.Common.{sym, ap, ◌∙◌, ⊎_elim, arith}
-use Rattle.std.proofs.lemmas.Bool.{cases_lt}
-use Rattle.std.proofs.lemmas.Bool.Decides.{nat_tests}
+use Rattle.std.proofs.lemmas.Bool.{cases_lt, le-leb}
 use Rattle.tree.specs.declared.line.Part.{Part}
-use Rattle.orders.specs.Orders.{Ranked, by}
-use Rattle.ranking.specs.Models.{Model, Lawful, stopped, summed, class, paired}
-use Rattle.orders.proofs.Orders.{leb_total, by_ranked, lex_ranked, lex_both}
+use Rattle.ranking.specs.Models.{Model, Lawful, LawfulJoin, stopped, by_number, paired}
+use Rattle.orders.proofs.Orders.{leb_total, same_pair, pair_total}
 
 -- ---- sums that stop
 
@@ -39,40 +38,25 @@ module _ (a b c : ℕ) where
       (cases_lt 18446744073709551615 (b + c)))
       (cases_lt 18446744073709551615 (a + b))
 
-pub summed_lawful : (counted : Part → ℕ → ℕ) → Lawful (summed counted)
-summed_lawful counted =
-    record {
-      order = leb_total;
-      commutative = λ a b. omega arith;
-      associative = λ a b c. stopped_assoc a b c;
-      unit = λ a. omega arith;
-      grows = λ a b. grind (arith, nat_tests);
-    }
+pub stopped_lawful : LawfulJoin stopped
+stopped_lawful = record { commutative = λ a b. omega arith; associative = λ a b c. stopped_assoc a b c; unit = λ a. omega arith; grows = λ a b. omega arith }
 
-pub class_lawful : Lawful class
-class_lawful =
+pub max_lawful : LawfulJoin max
+max_lawful = record { commutative = λ a b. omega arith; associative = λ a b c. max_assoc a b c; unit = λ a. omega arith; grows = λ a b. omega arith }
+
+pub by_number_lawful : (counted : Part → ℕ → ℕ) (join : ℕ → ℕ → ℕ) → LawfulJoin join → Lawful (by_number counted join)
+by_number_lawful counted join j =
     record {
       order = leb_total;
-      commutative = λ a b. omega arith;
-      associative = λ a b c. max_assoc a b c;
-      unit = λ a. omega arith;
-      grows = λ a b. grind (arith, nat_tests);
+      commutative = j.commutative;
+      associative = j.associative;
+      unit = j.unit;
+      grows = λ a b. le-leb a (join a b) (j.grows a b);
     }
 
 -- ---- one above another
 
 module _ {U L : Type 0} (u : Model U) (l : Model L) (p : Lawful u) (q : Lawful l) where
-  same : (a b : U × L) → a.0 ≡ b.0 → a.1 ≡ b.1 → a ≡ b
-  same (x, y) (z, w) e f = cc
-
-  pair_ranked : Ranked (paired u l).le
-  pair_ranked = lex_ranked (by (λ w. w.0) u.le) (by (λ w. w.1) l.le) (by_ranked (λ w. w.0) u.le p.order.ranked) (by_ranked (λ w. w.1) l.le q.order.ranked)
-
-  pair_antisymmetric : (a b : U × L) → (paired u l).le a b ≡ true → (paired u l).le b a ≡ true → a ≡ b
-  pair_antisymmetric a b h k =
-      let (x, y, z, w) = lex_both (by (λ w. w.0) u.le) (by (λ w. w.1) l.le) a b h k in
-      same a b (p.order.antisymmetric a.0 b.0 x y) (q.order.antisymmetric a.1 b.1 z w)
-
   grown : (x y z : Bool) → x ≡ true → z ≡ true → cond x (cond y z true) false ≡ true
   grown true true z h k = k
   grown true false z h k = refl
@@ -81,9 +65,9 @@ module _ {U L : Type 0} (u : Model U) (l : Model L) (p : Lawful u) (q : Lawful l
   pub paired_lawful : Lawful (paired u l)
   paired_lawful =
       record {
-        order = record { ranked = pair_ranked; antisymmetric = pair_antisymmetric };
+        order = pair_total u.le l.le p.order q.order;
         commutative = λ a b. cc (p.commutative a.0 b.0, q.commutative a.1 b.1);
         associative = λ a b c. cc (p.associative a.0 b.0 c.0, q.associative a.1 b.1 c.1);
-        unit = λ a. same _ a (p.unit a.0) (q.unit a.1);
+        unit = λ a. same_pair _ a (p.unit a.0) (q.unit a.1);
         grows = λ a b. grown (u.le a.0 (u.join a.0 b.0)) _ _ (p.grows a.0 b.0) (q.grows a.1 b.1);
       }

@@ -10,17 +10,16 @@ fn rise(price: u64, growth: u32) -> u64
     requires { price * growth + 999 < 2 ^ 64 }
     ensures { result ≡ rise growth price }
 {
-    (price * growth as u64 + 999) / 1000
+    (price * u64::from(growth) + 999) / 1000
 }
 
-// The list price after some years of growth.
-fn grown(price: u32, growth: u32, years: u32) -> u64
-    requires few_years { years ≤ 10 }
-    requires low_growth { growth ≤ 200 }
-    ensures { result ≡ grown price growth years }
+// The list price with the growth of each year.
+fn grown(price: u32, terms: Terms) -> u64
+    ensures { result ≡ grown price terms.growth terms.year }
 {
-    let mut cents = price as u64;
-    for _ in 0..years {
+    let growth = terms.growth();
+    let mut cents = u64::from(price);
+    for _ in 0..terms.year() {
         cents += rise(cents, growth);
     }
     cents
@@ -30,43 +29,23 @@ fn grown(price: u32, growth: u32, years: u32) -> u64
 fn discounted(part: Part) -> u64
     ensures { result ≡ discounted part }
 {
-    let price = part.price as u64;
-    price.saturating_sub(price * part.discount as u64 / 1000)
+    let price = u64::from(part.price);
+    price.saturating_sub(price * u64::from(part.discount) / 1000)
 }
 
-// In year 0 the list price less its discount, later the list price with its growth.
-fn in_year(part: Part, year: u32, growth: u32) -> u64
-    requires few_years { year ≤ 10 }
-    requires low_growth { growth ≤ 200 }
-    ensures { result ≡ charge year growth part }
-{
-    if year == 0 {
-        discounted(part)
-    } else {
-        grown(part.price, growth, year)
-    }
-}
-
-// The same, with the laws of the charge; the call below stays free of a proof of its own.
-fn priced(part: Part, year: u32, growth: u32) -> u64
-    requires few_years { year ≤ 10 }
-    requires low_growth { growth ≤ 200 }
-    ensures value { result ≡ charge year growth part }
-    ensures whole { InWholeCents year growth part result }
-    ensures room { result < 2 ^ 42 }
-    ensures worked { WorkedOut worked }
-{
-    in_year(part, year, growth)
-}
-
-// What the part costs under the terms.
+// What the part costs under the terms: in year 0 the list price less its discount, later the list price with its growth.
+#[tactic(auto, using(crate::proofs::Cents::whole_later, crate::proofs::Cents::grown_below))]
 pub fn charge(part: Part, terms: Terms) -> u64
     ensures is_charge { result ≡ charge terms.year terms.growth part }
     ensures in_whole_cents { InWholeCents terms.year terms.growth part result }
     ensures leaves_room_for_sums { result < 2 ^ 42 }
     ensures answers_worked_cases { WorkedOut worked }
 {
-    priced(part, terms.year(), terms.growth())
+    if terms.year() == 0 {
+        discounted(part)
+    } else {
+        grown(part.price, terms)
+    }
 }
 
 #[cfg(test)]
@@ -81,10 +60,7 @@ mod tests {
             discount,
             price,
         };
-        match Terms::new(year, growth) {
-            Ok(terms) => Ok(charge(part, terms)),
-            Err(_) => Err(Fail::new("refused terms")),
-        }
+        Ok(charge(part, Terms::new(year, growth)?))
     }
 
     #[test]

@@ -1,135 +1,140 @@
-// The four plain rankings.
-ghost use Rattle.std.specs.Prelude.{◌≡◌, ◌+◌, min, nat_le};
-ghost use Rattle.ranking.specs.Models.{stopped, price, rarity as rare, size as sized, class as classed};
-ghost use Rattle.ranking.specs.ModelsLemmas.{summed_lawful, class_lawful};
+// The four plain rankings: each by one 64-bit number, which the parts of a set count together.
+ghost use Rattle.std.specs.Prelude.{◌≡◌, ℕ, max};
+ghost use Rattle.tree.specs.declared.line.Part.{Part};
+ghost use Rattle.ranking.specs.Models.{stopped, by_number, LawfulJoin};
+ghost use Rattle.ranking.specs.ModelsLemmas.{by_number_lawful, stopped_lawful, max_lawful};
 
 use crate::order::Ranking;
+use std::marker::PhantomData;
 use tree::line::Part;
 
-// What no parts weigh.
-const NOTHING: u64 = 0;
+// What each part counts.
+pub trait Measure {
+    ghost counted: { Part → ℕ → ℕ };
 
-// What each part counts in the size of a set.
-const EACH: u64 = 1;
+    // The number of one part, charged so many cents.
+    fn of(part: Part, charge: u64) -> u64
+        ensures is_counted { result ≡ counted part charge };
+}
+
+// How the numbers of two sets that have no part in common make one.
+pub trait Join {
+    ghost join: { ℕ → ℕ → ℕ };
+
+    fn join(a: u64, b: u64) -> u64
+        ensures is_joined { result ≡ join a b };
+
+    ghost lawful: { LawfulJoin join };
+}
+
+// The charge in cents.
+pub struct Cents;
+
+// How rare it is that the part fails.
+pub struct Rareness;
+
+// 1, whatever the part.
+pub struct Each;
+
+// How hard the part is to reach.
+pub struct Reach;
 
 // The sum, or 2 ^ 64 − 1 where the sum is more.
-fn sum(a: u64, b: u64) -> u64
-    ensures stops { result ≡ min (a + b) 18446744073709551615 }
-    ensures joins { result ≡ stopped a b }
-{
-    a.saturating_add(b)
-}
+pub struct Sum;
 
-fn no_more(a: u64, b: u64) -> bool
-    ensures { result ≡ nat_le a b }
-{
-    a <= b
-}
+// The larger of the two.
+pub struct Largest;
 
-// What the parts are charged, in cents.
-pub struct Price;
+impl Measure for Cents {
+    ghost counted = { λ part charge. charge };
 
-// How rare it is that all the parts fail.
-pub struct Rarity;
-
-// How many parts there are.
-pub struct Size;
-
-// The worst class of the parts.
-pub struct Class;
-
-impl Ranking for Price {
-    type Weight = u64;
-
-    ghost model = { price };
-
-    ghost lawful = { summed_lawful _ };
-
-    fn zero() -> u64 {
-        NOTHING
-    }
-
-    fn weigh(_part: Part, charge: u64) -> u64 {
+    fn of(_part: Part, charge: u64) -> u64 {
         charge
     }
-
-    fn join(a: u64, b: u64) -> u64 {
-        sum(a, b)
-    }
-
-    fn at_most(a: u64, b: u64) -> bool {
-        no_more(a, b)
-    }
 }
 
-impl Ranking for Rarity {
-    type Weight = u64;
+impl Measure for Rareness {
+    ghost counted = { λ part charge. part.rarity };
 
-    ghost model = { rare };
-
-    ghost lawful = { summed_lawful _ };
-
-    fn zero() -> u64 {
-        NOTHING
-    }
-
-    fn weigh(part: Part, _charge: u64) -> u64 {
+    fn of(part: Part, _charge: u64) -> u64 {
         u64::from(part.rarity)
     }
+}
 
-    fn join(a: u64, b: u64) -> u64 {
-        sum(a, b)
-    }
+impl Measure for Each {
+    ghost counted = { λ part charge. 1 };
 
-    fn at_most(a: u64, b: u64) -> bool {
-        no_more(a, b)
+    fn of(_part: Part, _charge: u64) -> u64 {
+        1
     }
 }
 
-impl Ranking for Size {
-    type Weight = u64;
+impl Measure for Reach {
+    ghost counted = { λ part charge. part.class };
 
-    ghost model = { sized };
-
-    ghost lawful = { summed_lawful _ };
-
-    fn zero() -> u64 {
-        NOTHING
-    }
-
-    fn weigh(_part: Part, _charge: u64) -> u64 {
-        EACH
-    }
-
-    fn join(a: u64, b: u64) -> u64 {
-        sum(a, b)
-    }
-
-    fn at_most(a: u64, b: u64) -> bool {
-        no_more(a, b)
-    }
-}
-
-impl Ranking for Class {
-    type Weight = u64;
-
-    ghost model = { classed };
-
-    ghost lawful = { class_lawful };
-
-    fn zero() -> u64 {
-        NOTHING
-    }
-
-    fn weigh(part: Part, _charge: u64) -> u64 {
+    fn of(part: Part, _charge: u64) -> u64 {
         u64::from(part.class)
     }
+}
+
+impl Join for Sum {
+    ghost join = { stopped };
+
+    ghost lawful = { stopped_lawful };
+
+    fn join(a: u64, b: u64) -> u64 {
+        a.saturating_add(b)
+    }
+}
+
+impl Join for Largest {
+    ghost join = { max };
+
+    ghost lawful = { max_lawful };
 
     fn join(a: u64, b: u64) -> u64 {
         a.max(b)
     }
+}
+
+// By what the parts count: the set that counts less comes first.
+pub struct ByNumber<M: Measure, J: Join> {
+    measure: PhantomData<M>,
+    join: PhantomData<J>,
+}
+
+impl<M: Measure, J: Join> Ranking for ByNumber<M, J> {
+    type Weight = u64;
+
+    ghost model = { by_number M.counted J.join };
+
+    ghost lawful = { by_number_lawful M.counted J.join J.lawful };
+
+    fn zero() -> u64 {
+        0
+    }
+
+    fn weigh(part: Part, charge: u64) -> u64 {
+        M::of(part, charge)
+    }
+
+    fn join(a: u64, b: u64) -> u64 {
+        J::join(a, b)
+    }
 
     fn at_most(a: u64, b: u64) -> bool {
-        no_more(a, b)
+        a <= b
     }
 }
+
+// What the parts are charged, in cents.
+pub type Price = ByNumber<Cents, Sum>;
+
+// How rare it is that all the parts fail.
+pub type Rarity = ByNumber<Rareness, Sum>;
+
+// How many parts there are.
+pub type Size = ByNumber<Each, Sum>;
+
+// The worst class of the parts.
+pub type Class = ByNumber<Reach, Largest>;

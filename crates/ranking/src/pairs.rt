@@ -4,6 +4,7 @@ ghost use Rattle.ranking.specs.ModelsLemmas.{paired_lawful};
 
 use crate::kinds::{Class, Price, Rarity, Size};
 use crate::order::Ranking;
+use orders::lexicographic;
 use std::marker::PhantomData;
 use tree::line::Part;
 
@@ -33,15 +34,12 @@ impl<U: Ranking, L: Ranking> Ranking for Pair<U, L> {
     }
 
     fn at_most(a: (U::Weight, L::Weight), b: (U::Weight, L::Weight)) -> bool {
-        if U::at_most(a.0, b.0) {
-            if U::at_most(b.0, a.0) {
-                L::at_most(a.1, b.1)
-            } else {
-                true
-            }
-        } else {
-            false
-        }
+        lexicographic(
+            a,
+            b,
+            |x, y| U::at_most(x.0, y.0),
+            |x, y| L::at_most(x.1, y.1),
+        )
     }
 }
 

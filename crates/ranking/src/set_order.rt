@@ -3,10 +3,11 @@ ghost use Rattle.std.specs.Prelude.{◌≡◌};
 ghost use Rattle.ranking.specs.SetOrder.{size_then_line, weighed_le, OrdersSets};
 
 use crate::order::Ranking;
+use orders::lexicographic;
 use tree::line_set::{comes_first, size};
 
 // A set of lines with its weight.
-#[derive(Clone, Copy)]
+#[derive(Clone, Copy, PartialEq, Eq)]
 pub struct Weighed<W: Copy> {
     pub set: u64,
     pub weight: W,
@@ -16,28 +17,7 @@ pub struct Weighed<W: Copy> {
 fn smaller(a: u64, b: u64) -> bool
     ensures { result ≡ size_then_line a b }
 {
-    let (m, n) = (size(a), size(b));
-    if m == n { comes_first(a, b) } else { m < n }
-}
-
-fn compared<R: Ranking>(a: Weighed<R::Weight>, b: Weighed<R::Weight>) -> bool
-    ensures { result ≡ weighed_le R.Ranking.model.le a b }
-{
-    if !R::at_most(a.weight, b.weight) {
-        return false;
-    }
-    if !R::at_most(b.weight, a.weight) {
-        return true;
-    }
-    smaller(a.set, b.set)
-}
-
-// The same, with what it means for sets.
-fn ordered<R: Ranking>(a: Weighed<R::Weight>, b: Weighed<R::Weight>) -> bool
-    ensures value { result ≡ weighed_le R.Ranking.model.le a b }
-    ensures meaning { OrdersSets R.Ranking.model a b result }
-{
-    compared::<R>(a, b)
+    lexicographic(a, b, |x, y| size(x) <= size(y), comes_first)
 }
 
 // Whether a comes before b or is the same.
@@ -45,5 +25,10 @@ pub fn at_most<R: Ranking>(a: Weighed<R::Weight>, b: Weighed<R::Weight>) -> bool
     ensures is_order_of_weighed_sets { result ≡ weighed_le R.Ranking.model.le a b }
     ensures orders_sets { OrdersSets R.Ranking.model a b result }
 {
-    ordered::<R>(a, b)
+    lexicographic(
+        a,
+        b,
+        |x, y| R::at_most(x.weight, y.weight),
+        |x, y| smaller(x.set, y.set),
+    )
 }

@@ -4,7 +4,7 @@ ghost use Rattle.std.specs.Result.{result_map_both};
 ghost use Rattle.ranking.specs.Terms.{asked, terms_number};
 
 // The year, counted from the year of the list price, and the growth of prices per mille a year.
-#[derive(Clone, Copy)]
+#[derive(Clone, Copy, PartialEq, Eq)]
 pub struct Terms {
     year: u32,
     growth: u32,
@@ -13,7 +13,7 @@ pub struct Terms {
 }
 
 // Why terms are refused.
-#[derive(Clone, Copy)]
+#[derive(Clone, Copy, Debug, PartialEq, Eq)]
 pub enum TermsCause {
     Year,
     Growth,
@@ -33,7 +33,7 @@ impl Terms {
         Ok(Terms { year, growth })
     }
 
-    pub(crate) fn year(self) -> u32
+    pub fn year(self) -> u32
         ensures is_year { result ≡ self.year }
         ensures at_most_ten { result ≤ 10 }
     {
@@ -41,7 +41,7 @@ impl Terms {
     }
 
     // Per mille.
-    pub(crate) fn growth(self) -> u32
+    pub fn growth(self) -> u32
         ensures is_growth { result ≡ self.growth }
         ensures at_most_a_fifth { result ≤ 200 }
     {

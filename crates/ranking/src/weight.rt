@@ -5,26 +5,8 @@ ghost use Rattle.ranking.specs.Weights.{WeighsNone, InAnyOrder, WeighsOneMore, W
 use crate::order::Ranking;
 use tree::line::Part;
 
-// A weight and that of a part, joined.
-fn joined<R: Ranking>(weight: R::Weight, part: Part, charge: u64) -> R::Weight
-    ensures { result ≡ R.Ranking.model.join weight (R.Ranking.model.of_part part charge) }
-{
-    R::join(weight, R::weigh(part, charge))
-}
-
-// The same, with what it means for sets.
-fn weighed<R: Ranking>(weight: R::Weight, part: Part, charge: u64) -> R::Weight
-    ensures joins { result ≡ R.Ranking.model.join weight (R.Ranking.model.of_part part charge) }
-    ensures none { WeighsNone R.Ranking.model }
-    ensures any_order { InAnyOrder R.Ranking.model }
-    ensures one_more { WeighsOneMore R.Ranking.model weight part charge result }
-    ensures in_two { WeighsInTwo R.Ranking.model }
-    ensures no_less { WeighsNoLess R.Ranking.model }
-{
-    joined::<R>(weight, part, charge)
-}
-
 // The weight of a set with one part more, which is charged so many cents. A first part is added to zero.
+#[tactic(auto, using(crate::proofs::Weights::weighs_none, crate::proofs::Weights::in_any_order, crate::proofs::Weights::one_more, crate::proofs::Weights::weighs_in_two, crate::proofs::Weights::weighs_no_less))]
 pub fn add_part<R: Ranking>(weight: R::Weight, part: Part, charge: u64) -> R::Weight
     ensures joins_weight_of_part { result ≡ R.Ranking.model.join weight (R.Ranking.model.of_part part charge) }
     ensures weighs_set_with_part { WeighsOneMore R.Ranking.model weight part charge result }
@@ -33,7 +15,7 @@ pub fn add_part<R: Ranking>(weight: R::Weight, part: Part, charge: u64) -> R::We
     ensures weighs_set_within_and_rest { WeighsInTwo R.Ranking.model }
     ensures weighs_no_less_than_set_within { WeighsNoLess R.Ranking.model }
 {
-    weighed::<R>(weight, part, charge)
+    R::join(weight, R::weigh(part, charge))
 }
 
 #[cfg(test)]
@@ -68,7 +50,7 @@ mod tests {
 
     #[test]
     fn stops(rt: HostRuntime) {
-        let most = 0u64.wrapping_sub(1);
+        let most = u64::MAX;
         assert_eq!(rt; ByPrice::join((most, 1), (1, 1)), (most, 2));
     }
 
