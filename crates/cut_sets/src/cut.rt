@@ -1,10 +1,11 @@
 // Which lines of a tree hold, and whether a set is a minimal cut set.
-ghost use Rattle.std.specs.Prelude.{◌≡◌, ℕ, cond, bit_or};
-ghost use Rattle.tree.specs.Holding.{the_line, holds_by, holding, HoldingLaws};
-ghost use Rattle.tree.specs.Sets.{alone as one, Tells};
+ghost use Rattle.std.specs.Prelude.{◌≡◌, ℕ, ◌≤◌, Bool};
+ghost use Rattle.orders.specs.Orders.{Answers};
+ghost use Rattle.tree.specs.Holding.{the_line, told, holds_by, holding, HoldingLaws};
+ghost use Rattle.tree.specs.Sets.{Tells};
 ghost use Rattle.cut_sets.specs.Cuts.{parts, CutSet, Minimal, Spares, GatesHoldByChoice};
 
-use tree::line::{Gate, Line};
+use tree::line::Line;
 use tree::line_set::{alone, has, is_within, size};
 use tree::station_tree::{Tree, top_of};
 
@@ -22,40 +23,22 @@ fn holds_by(line: Line, failed: u64, i: usize, below: u64) -> bool
 pub(crate) fn line_of<T: Tree>(tree: &T, i: usize) -> Line
     ensures { result ≡ the_line (T.Tree.meaning tree.now) i }
 {
-    match tree.line(i) {
-        Some(line) => line,
-        None => Line::Gate(Gate {
-            children: 0,
-            need: 1,
-        }),
+    tree.line(i).unwrap_or_default()
+}
+
+// The set of the lines that the test tells, from below: it sees which lines below are in the set.
+fn told<F: Fn(usize, u64) -> bool>(count: usize, test: F) -> u64
+    requires in_a_word { count ≤ 64 }
+    requires callable { F.IsAlwaysCallable test }
+    ensures { (f : ℕ → ℕ → Bool) → Answers (F.post test) f → result ≡ told f count }
+{
+    let mut set = 0;
+    for i in 0..count {
+        if test(i, set) {
+            set |= alone(i);
+        }
     }
-}
-
-// The set, with line i if that is to be.
-pub(crate) fn with_line(set: u64, i: usize, to_be: bool) -> u64
-    ensures { result ≡ cond to_be (bit_or set (one i)) set }
-{
-    if to_be { set | alone(i) } else { set }
-}
-
-// One walk up the lines.
-fn walked<T: Tree>(tree: &T, failed: u64) -> u64
-    ensures { result ≡ holding (T.Tree.meaning tree.now) failed }
-{
-    let mut held = 0;
-    for i in 0..tree.count() {
-        held = with_line(held, i, holds_by(line_of(tree, i), failed, i, held));
-    }
-    held
-}
-
-// The same, with what is known of lines that hold.
-fn held<T: Tree>(tree: &T, failed: u64) -> u64
-    ensures value { result ≡ holding (T.Tree.meaning tree.now) failed }
-    ensures laws { HoldingLaws (T.Tree.meaning tree.now) }
-    ensures choice { GatesHoldByChoice (T.Tree.meaning tree.now) }
-{
-    walked(tree, failed)
+    set
 }
 
 // The lines that hold when the parts of a set have failed.
@@ -64,68 +47,42 @@ pub fn lines_holding<T: Tree>(tree: &T, failed: u64) -> u64
     ensures lines_hold_by_their_laws { HoldingLaws (T.Tree.meaning tree.now) }
     ensures gates_hold_by_some_choice { GatesHoldByChoice (T.Tree.meaning tree.now) }
 {
-    held(tree, failed)
+    told(tree.count(), |i, below| {
+        holds_by(line_of(tree, i), failed, i, below)
+    })
 }
 
 // The lines that are parts.
 fn parts_of<T: Tree>(tree: &T) -> u64
     ensures { result ≡ parts (T.Tree.meaning tree.now) }
 {
-    let mut set = 0;
-    for i in 0..tree.count() {
-        set = with_line(set, i, line_of(tree, i).is_part());
-    }
-    set
+    told(tree.count(), |i, _below| line_of(tree, i).is_part())
 }
 
 // Whether the set is a cut set.
 fn cuts<T: Tree>(tree: &T, set: u64) -> bool
     ensures { Tells result (CutSet (T.Tree.meaning tree.now) set) }
 {
-    if is_within(set, parts_of(tree)) {
-        has(lines_holding(tree, set), top_of(tree))
-    } else {
-        false
-    }
+    is_within(set, parts_of(tree)) && has(lines_holding(tree, set), top_of(tree))
 }
 
 // Whether the set has line i, and is a cut set without it.
 fn spares<T: Tree>(tree: &T, set: u64, i: usize) -> bool
     ensures { Tells result (Spares (T.Tree.meaning tree.now) set i) }
 {
-    if has(set, i) {
-        cuts(tree, set ^ alone(i))
-    } else {
-        false
-    }
+    has(set, i) && cuts(tree, set ^ alone(i))
 }
 
 // Whether the set is a cut set without some one of its lines; a word has 64 of them at most.
 fn spares_one<T: Tree>(tree: &T, set: u64) -> bool
     ensures { Tells result ((i : ℕ) × Spares (T.Tree.meaning tree.now) set i) }
 {
-    for i in 0..64 {
-        if spares(tree, set, i) {
-            return true;
-        }
-    }
-    false
+    (0..64).any(|i| spares(tree, set, i))
 }
 
-// Whether a cut set is minimal: it is if it spares no line, since more parts never make fewer lines hold.
-fn needs_all<T: Tree>(tree: &T, set: u64) -> bool
-    ensures { CutSet (T.Tree.meaning tree.now) set → Tells result (Minimal (T.Tree.meaning tree.now) set) }
-{
-    !spares_one(tree, set)
-}
-
-// Whether the set is a minimal cut set.
+// Whether the set is a minimal cut set: it is if it spares no line, since more parts never make fewer lines hold.
 pub fn is_minimal<T: Tree>(tree: &T, set: u64) -> bool
     ensures tells_minimal_cut_sets { Tells result (Minimal (T.Tree.meaning tree.now) set) }
 {
-    if cuts(tree, set) {
-        needs_all(tree, set)
-    } else {
-        false
-    }
+    cuts(tree, set) && !spares_one(tree, set)
 }

@@ -1,42 +1,17 @@
 // Where the waiting rule begins, and what it lists.
 ghost use Rattle.std.specs.Prelude.{◌≡◌, [], ◌∷◌};
-ghost use Rattle.tree.specs.Holding.{top};
 ghost use Rattle.orders.specs.Lists.{Each};
-ghost use Rattle.cut_sets.specs.WaitingRule.{search_of, top_way, loaded};
+ghost use Rattle.cut_sets.specs.WaitingRule.{search_of, loaded};
 ghost use Rattle.cut_sets.specs.Laws.{AsManyEnterAsChoices, OrdersWays, AlwaysListsInOrder, AlwaysWaitsInOrder, GoesOneWay, ListsAllInTheEnd};
 ghost use Rattle.cut_sets.specs.NextSets.{AlwaysComesNext};
 ghost use Rattle.cut_sets.specs.WorkedExamples.{ComesOut, worked};
 
-use crate::cut::{line_of, with_line};
+use crate::cut::line_of;
 use crate::way::Way;
 use ranking::order::Ranking;
+use tree::line::Line;
+use tree::line_set::alone;
 use tree::station_tree::{Tree, top_of};
-
-// Line i, as chosen part or as open gate.
-fn way_of<T: Tree>(tree: &T, i: usize) -> Way
-    ensures { i ≡ top (T.Tree.meaning tree.now) → result ≡ top_way (T.Tree.meaning tree.now) }
-{
-    let part = line_of(tree, i).is_part();
-    Way {
-        chosen: with_line(0, i, part),
-        gates: with_line(0, i, !part),
-    }
-}
-
-// The same, with what comes of it.
-fn started<T: Tree, R: Ranking>(tree: &T, i: usize) -> Way
-    ensures alone { i ≡ top (T.Tree.meaning tree.now) → loaded (T.Tree.meaning tree.now) ≡ search_of (result ∷ []) [] }
-    ensures order { OrdersWays R.Ranking.model (T.Tree.meaning tree.now) }
-    ensures lists { AlwaysListsInOrder R.Ranking.model (T.Tree.meaning tree.now) }
-    ensures waits { AlwaysWaitsInOrder R.Ranking.model (T.Tree.meaning tree.now) }
-    ensures next { AlwaysComesNext R.Ranking.model (T.Tree.meaning tree.now) }
-    ensures one_way { GoesOneWay R.Ranking.model (T.Tree.meaning tree.now) }
-    ensures whole { ListsAllInTheEnd R.Ranking.model (T.Tree.meaning tree.now) }
-    ensures entering { AsManyEnterAsChoices (T.Tree.meaning tree.now) }
-    ensures worked { Each ComesOut worked }
-{
-    way_of(tree, i)
-}
 
 // The one way that waits when a tree is loaded. What the waiting rule lists from there is promised for every charge of
 // parts and every number of slots.
@@ -51,5 +26,15 @@ pub fn first_way<T: Tree, R: Ranking>(tree: &T) -> Way
     ensures as_many_ways_enter_as_choices { AsManyEnterAsChoices (T.Tree.meaning tree.now) }
     ensures worked_examples_come_out { Each ComesOut worked }
 {
-    started::<T, R>(tree, top_of(tree))
+    let top = top_of(tree);
+    match line_of(tree, top) {
+        Line::Part(_) => Way {
+            chosen: alone(top),
+            gates: 0,
+        },
+        Line::Gate(_) => Way {
+            chosen: 0,
+            gates: alone(top),
+        },
+    }
 }

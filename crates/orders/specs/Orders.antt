@@ -1,5 +1,5 @@
 -- Orders given by tests, and one order after another.
-use Rattle.std.specs.Prelude.{◌≡◌, Bool, true, false, cond, ◌⊎◌}
+use Rattle.std.specs.Prelude.{◌≡◌, Bool, true, false, cond, ◌⊎◌, MatchBool}
 
 -- any two compare, though two that differ may each be at most the other
 pub record Ranked {E : Type 0} (le : E → E → Bool) : Type 0 where
@@ -19,6 +19,9 @@ lex p q a b = cond (p a b) (cond (p b a) (q a b) true) false
 abbrev pub by : {E K : Type 0} → (E → K) → (K → K → Bool) → E → E → Bool
 by f le a b = le (f a) (f b)
 
--- the test answers as le does; `told` is what a call of the test may answer
-abbrev pub Answers : {E : Type 0} → (E → E → Bool → Type 0) → (E → E → Bool) → Type 0
-Answers {E} told le = (a b : E) (r : Bool) → told a b r → r ≡ le a b
+-- r says whether a is at most b by two tests, as `lex` does; `upper` and `lower` tell what calls of them may answer
+abbrev pub InTurn : {E : Type 0} → (upper lower : E → E → Bool → Type 0) (a b : E) (r : Bool) → Type 0
+InTurn upper lower a b r =
+    MatchBool r
+    (upper a b true × (upper b a false ⊎ lower a b true))
+    (upper a b false ⊎ (upper b a true × lower a b false))

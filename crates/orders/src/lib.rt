@@ -2,7 +2,7 @@
 #![tactic(auto)]
 
 ghost use Rattle.std.specs.Prelude.{◌≡◌, Bool};
-ghost use Rattle.orders.specs.Orders.{Total, Answers, lex};
+ghost use Rattle.orders.specs.Orders.{Total, InTurn};
 
 // An order given by a type. Its call stands alone, so that one type of item can have several orders.
 pub trait Order {
@@ -26,7 +26,7 @@ pub fn lexicographic<T: Copy, U: Fn(T, T) -> bool, L: FnOnce(T, T) -> bool>(
 ) -> bool
     requires upper_is_callable { U.IsAlwaysCallable upper }
     requires lower_is_callable { L.IsAlwaysCallable lower }
-    ensures is_upper_then_lower { (p q : T → T → Bool) → Answers (U.post upper) p → Answers (L.post lower) q → result ≡ lex p q a b }
+    ensures is_upper_then_lower { InTurn (U.post upper) (L.post lower) a b result }
 {
     upper(a, b) && (!upper(b, a) || lower(a, b))
 }
