@@ -68,8 +68,8 @@ number_is low high field bs n small e = number_written low high bs n small (ok_s
 
 fields_read : (o : Order) → OrderOk o → order_line (order_words o) ≡ Ok o
 fields_read o ok =
-    goes (order_number 0 10 1 (decimal o.year)) _ o.year (number_read 0 10 1 o.year (omega arith) (omega arith) ok.low_year)
-    ∙ goes (order_number 0 200 2 (decimal o.growth)) _ o.growth (number_read 0 200 2 o.growth (omega arith) (omega arith) ok.low_growth)
+    goes (order_number 0 10 1 (decimal o.terms.year)) _ o.terms.year (number_read 0 10 1 o.terms.year (omega arith) (omega arith) ok.low_year)
+    ∙ goes (order_number 0 200 2 (decimal o.terms.growth)) _ o.terms.growth (number_read 0 200 2 o.terms.growth (omega arith) (omega arith) ok.low_growth)
     ∙ goes (criterion_field (letter o.criterion ∷ [])) _ o.criterion (criterion_read o.criterion)
     ∙ goes (order_number 1 64 4 (decimal o.sets)) _ o.sets (number_read 1 64 4 o.sets (omega arith) ok.some_sets ok.few_sets)
 
@@ -83,7 +83,7 @@ fields_written y g l k o e =
     let n₂ = number_is 0 200 2 g w₂.first (omega arith) w₂.was in
     let n₄ = number_is 1 64 4 k w₄.first (omega arith) w₄.was in
     let n₃ = criterion_written l w₃.first (ok_some _ _ w₃.first w₃.was) in
-    let is : record { year = w₁.first; growth = w₂.first; criterion = w₃.first; sets = w₄.first } ≡ o = cc w₄.next in
+    let is : record { terms = record { year = w₁.first; growth = w₂.first }; criterion = w₃.first; sets = w₄.first } ≡ o = cc w₄.next in
     subst (λ (x : Order). OrderOk x × (y ∷ (g ∷ (l ∷ (k ∷ []))) ≡ order_words x)) is
     (record { low_year = n₁.2; low_growth = n₂.2; some_sets = n₄.1; few_sets = n₄.2 }, cc (n₁.0, n₂.0, n₄.0))
 
@@ -105,17 +105,17 @@ letter_unparted Size = refl
 
 words_unparted : (o : Order) → OrderOk o → All (λ f. All (λ b. separates b ≡ false) f) (order_words o)
 words_unparted o ok = (
-  decimal_unparted o.year (omega arith),
+  decimal_unparted o.terms.year (omega arith),
   (
-    decimal_unparted o.growth (omega arith),
+    decimal_unparted o.terms.growth (omega arith),
     ((letter_unparted o.criterion, tt), (decimal_unparted o.sets (omega arith), tt)),
   ),
 )
 
 words_short : (o : Order) → OrderOk o → length (tabbed (order_words o)) < 32
 words_short o ok =
-    let y = length-decimal-le 2 o.year (omega arith) (omega arith) (omega arith) in
-    let g = length-decimal-le 3 o.growth (omega arith) (omega arith) (omega arith) in
+    let y = length-decimal-le 2 o.terms.year (omega arith) (omega arith) (omega arith) in
+    let g = length-decimal-le 3 o.terms.growth (omega arith) (omega arith) (omega arith) in
     let k = length-decimal-le 2 o.sets (omega arith) (omega arith) (omega arith) in
     simp length-append (omega arith)
 

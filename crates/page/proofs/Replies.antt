@@ -1,5 +1,5 @@
 -- What was written is what the answer to the input makes of it.
-use Rattle.std.proofs.Common.{◌≡◌, ℕ, Bool, true, false, cond, leb, List, ◌++◌, length, drop, Some, None, Ok, Err, Result, refl, sym, arith}
+use Rattle.std.proofs.Common.{◌≡◌, ℕ, Bool, true, false, cond, leb, List, ◌++◌, length, drop, Some, None, Ok, Err, Result, refl, arith}
 use Rattle.std.specs.Option.{ok_or}
 use Rattle.std.specs.Result.{result_unwrap_or}
 use Rattle.page.specs.Answers.{reply, replied, written_for, fitted}

@@ -39,7 +39,7 @@ order_fields y g l k =
     then (order_number 0 200 2 g) (λ growth.
     then (criterion_field l) (λ criterion.
     then (order_number 1 64 4 k) (λ sets.
-    Ok (record { year = year; growth = growth; criterion = criterion; sets = sets })))))
+    Ok (record { terms = record { year = year; growth = growth }; criterion = criterion; sets = sets })))))
 
 -- the order of a line by its fields
 abbrev pub order_line : List (List ℕ) → Result Order PageFault

@@ -65,7 +65,7 @@ sheet year growth rows =
 
 -- the sheet that an input asks for
 abbrev pub sheet_of : List ℕ → Result (List ℕ) PageFault
-sheet_of bs = then (task_read bs) (λ task. Ok (sheet task.0.year task.0.growth task.1))
+sheet_of bs = then (task_read bs) (λ task. Ok (sheet task.0.terms.year task.0.terms.growth task.1))
 
 -- what is answered where a text is to be written, and what the page bytes then hold
 unfoldable pub answered : Result (List ℕ) PageFault → List ℕ → Result ℕ PageFault

@@ -21,7 +21,7 @@ letter Size = 83
 -- year, growth, letter and number of sets
 abbrev pub order_words : Order → List (List ℕ)
 order_words o =
-    decimal o.year ∷ (decimal o.growth ∷ ((letter o.criterion ∷ []) ∷ (decimal o.sets ∷ [])))
+    decimal o.terms.year ∷ (decimal o.terms.growth ∷ ((letter o.criterion ∷ []) ∷ (decimal o.sets ∷ [])))
 
 -- the four fields with single tabs between them, and byte 10
 abbrev pub order_text : Order → List ℕ
@@ -29,8 +29,8 @@ order_text o = tabbed (order_words o) ++ (10 ∷ [])
 
 -- an order within the limits
 pub record OrderOk (o : Order) : Type 0 where
-  pub low_year : o.year ≤ 10
-  pub low_growth : o.growth ≤ 200
+  pub low_year : o.terms.year ≤ 10
+  pub low_growth : o.terms.growth ≤ 200
   pub some_sets : 1 ≤ o.sets
   pub few_sets : o.sets ≤ 64
 

@@ -9,13 +9,14 @@ ghost use Rattle.page.specs.Faults.{page_fault};
 ghost use Rattle.page.specs.declared.faults.PageCause.TheVariants.{NoOrder};
 
 use crate::faults::{PageCause, PageFault};
+use ranking::terms::Terms;
 use station_file::read_tree::ReadTree;
 use station_file::reader::read;
 use tabbed_text::fields::Fields;
 use tabbed_text::numbers::number;
 
 // What sets are ranked by first: price above rarity, or one of the others above price.
-#[derive(Clone, Copy)]
+#[derive(Clone, Copy, PartialEq, Eq)]
 pub enum Criterion {
     Price,
     Rarity,
@@ -23,10 +24,9 @@ pub enum Criterion {
     Size,
 }
 
-#[derive(Clone, Copy)]
+#[derive(Clone, Copy, PartialEq, Eq)]
 pub struct Order {
-    pub year: u32,
-    pub growth: u32,
+    pub terms: Terms,
     pub criterion: Criterion,
     pub sets: u32,
 }
@@ -94,16 +94,17 @@ fn four_fields<'a>(walk: &mut Fields<'a>) -> Option<OrderFields<'a>>
 }
 
 fn order_values(f: OrderFields) -> Result<Order, PageFault>
-    ensures within { IfOk result (λ o. (o.year ≤ 10) × (o.growth ≤ 200)) }
-    ensures value { result ≡ order_fields f.entry.year.now f.entry.growth.now f.entry.letter.now f.entry.sets.now }
+    ensures { result ≡ order_fields f.entry.year.now f.entry.growth.now f.entry.letter.now f.entry.sets.now }
 {
     let year = order_number(f.year, 0, 10, 1)?;
     let growth = order_number(f.growth, 0, 200, 2)?;
+    let Ok(terms) = Terms::new(year, growth) else {
+        unreachable!()
+    };
     let criterion = criterion_field(f.letter)?;
     let sets = order_number(f.sets, 1, 64, 4)?;
     Ok(Order {
-        year,
-        growth,
+        terms,
         criterion,
         sets,
     })
@@ -111,8 +112,7 @@ fn order_values(f: OrderFields) -> Result<Order, PageFault>
 
 // The order of a line by its fields.
 fn order_line(walk: &mut Fields) -> Result<Order, PageFault>
-    ensures within { IfOk result (λ o. (o.year ≤ 10) × (o.growth ≤ 200)) }
-    ensures value { result ≡ order_line (fields_of (remains walk.old)) }
+    ensures { result ≡ order_line (fields_of (remains walk.old)) }
 {
     let Some(f) = four_fields(walk) else {
         return Err(PageCause::NoOrder.at(1, 0));
@@ -122,7 +122,6 @@ fn order_line(walk: &mut Fields) -> Result<Order, PageFault>
 
 // The order, where the input begins with an order line.
 fn read_order(input: &[u8]) -> Result<Order, PageFault>
-    ensures within { IfOk result (λ o. (o.year ≤ 10) × (o.growth ≤ 200)) }
     ensures value { result ≡ order_of input.now }
     ensures decides { DecidesTask input.now result }
 {
@@ -136,7 +135,6 @@ fn read_order(input: &[u8]) -> Result<Order, PageFault>
 // Reads the order line and the station file after it, which fills the tree; where either is refused, the tree stays as
 // it is.
 pub fn read_task(input: &[u8], tree: &mut ReadTree) -> Result<Order, PageFault>
-    ensures orders_within_limits { IfOk result (λ o. (o.year ≤ 10) × (o.growth ≤ 200)) }
     ensures answers_by_the_questions { result ≡ order_told (task_read input.now) }
     ensures fills_the_tree { rows_of tree.new ≡ rows_told (task_read input.now) (rows_of tree.old) }
     ensures tells_what_is_read { MatchResult result (λ o. task_read input.now ≡ Ok (o, rows_of tree.new)) (λ f. task_read input.now ≡ Err f) }

@@ -89,8 +89,9 @@ pub fn charge_sheet(input: &[u8], out: &mut [u8]) -> Result<usize, PageFault>
 {
     let mut tree = ReadTree::new();
     let order = read_task(input, &mut tree)?;
-    let Ok(terms) = Terms::new(order.year, order.growth) else {
-        unreachable()
+    let sheet = Sheet {
+        tree: &tree,
+        terms: order.terms,
     };
-    write_whole(&Sheet { tree: &tree, terms }, out).ok_or(PageCause::NoRoom.at(0, 0))
+    write_whole(&sheet, out).ok_or(PageCause::NoRoom.at(0, 0))
 }

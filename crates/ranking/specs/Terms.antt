@@ -3,6 +3,11 @@ use Rattle.std.specs.Prelude.{ℕ, cond, Ok, Err, Result, nat_le}
 use Rattle.ranking.specs.declared.terms.TermsCause.{TermsCause}
 use Rattle.ranking.specs.declared.terms.TermsCause.TheVariants.{Year, Growth}
 
+-- what terms say
+pub record Said : Type 0 where
+  pub year : ℕ
+  pub growth : ℕ
+
 -- the number of each refusal
 abbrev pub terms_number : TermsCause → ℕ
 terms_number Year = 11

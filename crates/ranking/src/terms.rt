@@ -3,13 +3,26 @@ ghost use Rattle.std.specs.Prelude.{◌≡◌, ◌≤◌};
 ghost use Rattle.std.specs.Result.{result_map_both};
 ghost use Rattle.ranking.specs.Terms.{asked, terms_number};
 
+use std::marker::Model;
+
 // The year, counted from the year of the list price, and the growth of prices per mille a year.
 #[derive(Clone, Copy, PartialEq, Eq)]
 pub struct Terms {
     year: u32,
     growth: u32,
-    ghost year_within: { year ≤ 10 },
-    ghost growth_within: { growth ≤ 200 },
+}
+
+impl Model for Terms {
+    ghost use Rattle.std.specs.Prelude.{◌≤◌};
+    ghost use Rattle.ranking.specs.Terms.{Said};
+
+    ghost Value = { Said };
+
+    ghost view = { λ t. record { year = t.year; growth = t.growth } };
+
+    ghost invariant = { λ t. (t.year ≤ 10) × (t.growth ≤ 200) };
+
+    ghost inverse = { λ s. record { year = s.year; growth = s.growth } };
 }
 
 // Why terms are refused.
