@@ -1,10 +1,10 @@
 -- Parts and gates of a tree, gates that hold by a choice of their children, and how a cut set is seen to be minimal.
-use Rattle.std.proofs.Common.{◌≡◌, ℕ, ◌+◌, ◌^◌, ◌<◌, Bool, true, false, cond, not, ltb, ◌⊎◌, List, length, sym, refl, ap, ◌∙◌, subst, inl, inr, ⊎_elim, add-one, arith}
+use Rattle.std.proofs.Common.{◌≡◌, ℕ, ◌+◌, ◌^◌, ◌<◌, Bool, true, false, cond, not, ltb, ◌⊎◌, List, length, sym, refl, ap, ◌∙◌, subst, ap₂, inl, inr, ⊎_elim, add-one, arith}
 use lib.Bits.{bit_and, bit_or, bit_xor, or_zero_r}
 use lib.Count.{ones}
 use Rattle.std.proofs.lemmas.Bool.{leb-true, le-leb, lt-ltb, both_ways, cases_Bool, cond-true, not-true, not_from_false}
 use Rattle.orders.specs.Lists.{In}
-use Rattle.tree.specs.Holding.{the_line, top, told, holding, holds}
+use Rattle.tree.specs.Holding.{the_line, top, told, line_holds, holding, holds}
 use Rattle.tree.specs.Lines.{part_line}
 use Rattle.tree.specs.Rules.{keeps_rules}
 use Rattle.tree.specs.Sets.{has, alone, ◌⊆◌, Below, Tells}
@@ -22,21 +22,26 @@ use Rattle.cut_sets.specs.Cuts.{lines_that, parts, gates_of, CutSet, Minimal, Sp
 
 -- ---- a set told line by line, as a word
 
-pub told_none : (f : ℕ → ℕ → Bool) → 0 ≡ told f 0
+pub told_none : (f : ℕ → ℕ → Bool) → told f 0 ≡ 0
 unfolding told
 told_none f = refl
 
-pub told_all : (f : ℕ → ℕ → Bool) (s i n : ℕ) → s ≡ told f i → i ≡ n → s ≡ told f n
-told_all f s i n is all = is ∙ ap (told f) all
-
-pub told_more : (f : ℕ → ℕ → Bool) (i s r : ℕ) (b : Bool) → i < 64 → s ≡ told f i → b ≡ f i s → r ≡ cond b (bit_or s (alone i)) s → r ≡ told f (i + 1)
+pub told_in : (f : ℕ → ℕ → Bool) (i s : ℕ) → i < 64 → s ≡ told f i → f i s ≡ true → bit_or s (alone i) ≡ told f (i + 1)
 unfolding told
-told_more f i s r b h is t e =
-    e ∙ ap (λ x. cond b (bit_or x (alone i)) x) is ∙ go b ∙ ap (λ v. bit_or (told f i) (cond v (2 ^ i) 0)) (t ∙ ap (f i) is) ∙ ap (told f) (sym (add-one i))
-  where
-    go : (b : Bool) → cond b (bit_or (told f i) (alone i)) (told f i) ≡ bit_or (told f i) (cond b (2 ^ i) 0)
-    go true = ap (bit_or (told f i)) (cond-true (ltb i 64) (2 ^ i) 0 (lt-ltb i 64 h))
-    go false = sym (or_zero_r (told f i))
+told_in f i s h e t =
+    ap (bit_or s) (cond-true (ltb i 64) (2 ^ i) 0 (lt-ltb i 64 h)) ∙ ap₂ (λ x b. bit_or x (cond b (2 ^ i) 0)) e (sym t ∙ ap (f i) e) ∙ ap (told f) (sym (add-one i))
+
+pub told_out : (f : ℕ → ℕ → Bool) (i s : ℕ) → s ≡ told f i → f i s ≡ false → s ≡ told f (i + 1)
+unfolding told
+told_out f i s e t = sym (or_zero_r s) ∙ ap₂ (λ x b. bit_or x (cond b (2 ^ i) 0)) e (sym t ∙ ap (f i) e) ∙ ap (told f) (sym (add-one i))
+
+pub holding_told : (rows : List Row) (s : ℕ) → holding rows s ≡ told (line_holds rows s) (length rows)
+unfolding holding
+holding_told rows s = refl
+
+pub parts_told : (rows : List Row) → parts rows ≡ told (λ i below. part_line (the_line rows i)) (length rows)
+unfolding lines_that
+parts_told rows = refl
 
 -- ---- the lines that pass a test
 

@@ -1,6 +1,6 @@
 -- Which sets a way stands for, and how the order of ways goes with the order of sets.
-use Rattle.std.proofs.Common.{◌≡◌, ℕ, ◌^◌, ◌<◌, ◌≤◌, Bool, true, false, cond, not, eqb, ltb, leb, List, length, sym, refl, ap, ◌∙◌, subst, ap₂, ⊎_elim, arith}
-use lib.Bits.{bit_and}
+use Rattle.std.proofs.Common.{◌≡◌, ℕ, ◌^◌, ◌<◌, ◌≤◌, Bool, true, false, cond, not, eqb, ltb, leb, List, [], ◌∷◌, length, sym, refl, ap, ◌∙◌, subst, ⊎_elim, arith}
+use lib.Bits.{bit_and, bit_or, or_zero_l}
 use lib.Count.{ones}
 use Rattle.std.proofs.lemmas.Bool.{leb-true, le-leb, lt-ltb, eq-eqb, cases_eq, both_ways, cond-true}
 use Rattle.orders.specs.Lists.{In}
@@ -24,7 +24,7 @@ use Rattle.ranking.proofs.Weights.{weighs_no_less}
 use Rattle.choices.proofs.Choosing.{choosing}
 use Rattle.cut_sets.specs.Cuts.{lines_that, parts, gates_of}
 use Rattle.cut_sets.specs.Ways.{finished, fewer_chosen, open_first, lowest_chosen, lowest_gate, size_then_lines, lighter, way_le, StandsFor}
-use Rattle.cut_sets.specs.WaitingRule.{adding, closing, choices_of, choices_at, top_way}
+use Rattle.cut_sets.specs.WaitingRule.{adding, closing, choices_of, choices_at, way_of, top_way, loaded, search_of}
 use Rattle.cut_sets.specs.declared.way.Way.{Way}
 use Rattle.cut_sets.proofs.Cuts.{that_is, that_below, part_of, gate_of, kind, holds_choice, choice_holds}
 
@@ -174,9 +174,13 @@ module _ (rows : List Row) (k : keeps_rules rows ≡ true) where
       let word : alone (top rows) ≡ 2 ^ top rows = cond-true (ltb (top rows) 64) (2 ^ top rows) 0 (lt-ltb (top rows) 64 (omega (arith, few_lines rows k))) in
       ap (λ x. cond (test (the_line rows (top rows))) x 0) word ∙ ap (λ b. cond b (2 ^ top rows) 0) (sym (that_is test rows (top rows) low)) ∙ sym (meet_one (lines_that test rows) (top rows))
 
-  pub top_told : (w : Way) (i : ℕ) (part : Bool) → i ≡ top rows → part ≡ part_line (the_line rows i) → w.chosen ≡ cond part (alone i) 0 → w.gates ≡ cond (not part) (alone i) 0 → w ≡ top_way rows
-  top_told w i part at is p q =
-      let here : part ≡ part_line (the_line rows (top rows)) = is ∙ ap (λ j. part_line (the_line rows j)) at in
-      same_way w (top_way rows)
-      (p ∙ ap₂ (λ b j. cond b (alone j) 0) here at ∙ top_in part_line)
-      (q ∙ ap₂ (λ b j. cond (not b) (alone j) 0) here at ∙ top_in (λ l. not (part_line l)))
+  top_of_kind : (test : Line → Bool) (l : Line) → the_line rows (top rows) ≡ l → bit_or 0 (bit_and (2 ^ top rows) (lines_that test rows)) ≡ cond (test l) (alone (top rows)) 0
+  top_of_kind test l e = or_zero_l _ ∙ sym (top_in test) ∙ ap (λ x. cond (test x) (alone (top rows)) 0) e
+
+  pub top_alone : loaded rows ≡ search_of (way_of (the_line rows (top rows)) (top rows) ∷ []) []
+  unfolding way_of
+  top_alone = ap (λ w. search_of (w ∷ []) []) (go (the_line rows (top rows)) refl)
+    where
+      go : (l : Line) → the_line rows (top rows) ≡ l → top_way rows ≡ way_of l (top rows)
+      go (line.Part p) e = same_way _ _ (top_of_kind part_line _ e) (top_of_kind (λ l. not (part_line l)) _ e)
+      go (line.Gate g) e = same_way _ _ (top_of_kind part_line _ e) (top_of_kind (λ l. not (part_line l)) _ e)

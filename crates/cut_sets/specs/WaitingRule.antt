@@ -2,7 +2,7 @@
 use Rattle.std.specs.Prelude.{◌≡◌, ℕ, ◌+◌, ◌^◌, ◌<◌, ◌≤◌, Bool, true, false, ◌||◌, List, [], ◌∷◌, ◌++◌, map, length, bit_and, bit_or, bit_xor}
 use Rattle.orders.specs.Sorted.{insert_all}
 use Rattle.tree.specs.Holding.{the_line, top}
-use Rattle.tree.specs.Sets.{within, Highest}
+use Rattle.tree.specs.Sets.{alone, within, Highest}
 use Rattle.tree.specs.declared.line.Part.{Part}
 use Rattle.tree.specs.declared.line.Line.{Line}
 use Rattle.tree.specs.declared.line.Line.TheVariants as line
@@ -45,6 +45,11 @@ choices_at rows i = choices_of (the_line rows i) i
 -- the ways that enter when gate g of a way is closed: one for each choice
 abbrev pub entering : List Row → Way → ℕ → List Way
 entering rows w g = map (adding rows (closing w g)) (choices_at rows g)
+
+-- line i alone, as chosen part or as open gate
+unfoldable pub way_of : Line → ℕ → Way
+way_of (line.Part p) i = record { chosen = alone i; gates = 0 }
+way_of (line.Gate g) i = record { chosen = 0; gates = alone i }
 
 -- the top, as chosen part or as open gate
 abbrev pub top_way : List Row → Way

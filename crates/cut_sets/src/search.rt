@@ -7,14 +7,13 @@ ghost use Rattle.cut_sets.specs.NextSets.{AlwaysComesNext};
 ghost use Rattle.cut_sets.specs.WorkedExamples.{ComesOut, worked};
 
 use crate::cut::line_of;
-use crate::way::Way;
+use crate::way::{Way, way_of};
 use ranking::order::Ranking;
-use tree::line::Line;
-use tree::line_set::alone;
 use tree::station_tree::{Tree, top_of};
 
 // The one way that waits when a tree is loaded. What the waiting rule lists from there is promised for every charge of
 // parts and every number of slots.
+#[tactic(auto, using(crate::proofs::Ways::top_alone, crate::proofs::Examples::worked_out))]
 pub fn first_way<T: Tree, R: Ranking>(tree: &T) -> Way
     ensures waits_alone_when_loaded { loaded (T.Tree.meaning tree.now) ≡ search_of (result ∷ []) [] }
     ensures ways_are_ordered { OrdersWays R.Ranking.model (T.Tree.meaning tree.now) }
@@ -27,14 +26,5 @@ pub fn first_way<T: Tree, R: Ranking>(tree: &T) -> Way
     ensures worked_examples_come_out { Each ComesOut worked }
 {
     let top = top_of(tree);
-    match line_of(tree, top) {
-        Line::Part(_) => Way {
-            chosen: alone(top),
-            gates: 0,
-        },
-        Line::Gate(_) => Way {
-            chosen: 0,
-            gates: alone(top),
-        },
-    }
+    way_of(line_of(tree, top), top)
 }
