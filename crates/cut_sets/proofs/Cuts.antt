@@ -1,8 +1,9 @@
 -- Parts and gates of a tree, gates that hold by a choice of their children, and how a cut set is seen to be minimal.
-use Rattle.std.proofs.Common.{◌≡◌, ℕ, ◌+◌, ◌^◌, ◌<◌, Bool, true, false, cond, not, ltb, ◌⊎◌, List, length, sym, refl, ap, ◌∙◌, subst, ap₂, inl, inr, ⊎_elim, add-one, arith}
+use Rattle.std.proofs.Common.{◌≡◌, ℕ, ◌+◌, ◌^◌, ◌<◌, Bool, true, false, not, ◌⊎◌, List, length, sym, refl, ◌∙◌, subst, ⊎_elim, add-one, arith}
 use lib.Bits.{bit_and, bit_or, bit_xor, or_zero_r}
 use lib.Count.{ones}
-use Rattle.std.proofs.lemmas.Bool.{leb-true, le-leb, lt-ltb, both_ways, cases_Bool, cond-true, not-true, not_from_false}
+use Rattle.std.proofs.lemmas.Bool.{leb-true, le-leb, both_ways, cases_Bool, not-true, not_from_false}
+use Rattle.std.proofs.lemmas.Bool.Decides.{nat_tests}
 use Rattle.orders.specs.Lists.{In}
 use Rattle.tree.specs.Holding.{the_line, top, told, line_holds, holding, holds}
 use Rattle.tree.specs.Lines.{part_line}
@@ -16,6 +17,7 @@ use Rattle.tree.specs.declared.line.Row.{Row}
 use Rattle.tree.proofs.Holding.{lt_below, children_below, holds_gate, holds_more}
 use Rattle.tree.proofs.Sets.{no_test, same_lines, meet_left, meet_right, in_meet, ones_mono, without, apart}
 use Rattle.tree.proofs.Told.{told_below, told_is}
+use Rattle.ranking.proofs.Weights.{is_part}
 use Rattle.choices.specs.Counts.{choices}
 use Rattle.choices.proofs.Choosing.{choosing, some_choice}
 use Rattle.cut_sets.specs.Cuts.{lines_that, parts, gates_of, CutSet, Minimal, Spares, GatesHoldByChoice}
@@ -28,12 +30,11 @@ told_none f = refl
 
 pub told_in : (f : ℕ → ℕ → Bool) (i s : ℕ) → i < 64 → s ≡ told f i → f i s ≡ true → bit_or s (alone i) ≡ told f (i + 1)
 unfolding told
-told_in f i s h e t =
-    ap (bit_or s) (cond-true (ltb i 64) (2 ^ i) 0 (lt-ltb i 64 h)) ∙ ap₂ (λ x b. bit_or x (cond b (2 ^ i) 0)) e (sym t ∙ ap (f i) e) ∙ ap (told f) (sym (add-one i))
+told_in f i s h e t = rw add-one (grind (arith, nat_tests))
 
 pub told_out : (f : ℕ → ℕ → Bool) (i s : ℕ) → s ≡ told f i → f i s ≡ false → s ≡ told f (i + 1)
 unfolding told
-told_out f i s e t = sym (or_zero_r s) ∙ ap₂ (λ x b. bit_or x (cond b (2 ^ i) 0)) e (sym t ∙ ap (f i) e) ∙ ap (told f) (sym (add-one i))
+told_out f i s e t = rw add-one (grind (arith, or_zero_r s))
 
 pub holding_told : (rows : List Row) (s : ℕ) → holding rows s ≡ told (line_holds rows s) (length rows)
 unfolding holding
@@ -58,21 +59,17 @@ module _ (test : Line → Bool) (rows : List Row) where
   that_passes i e = sym (that_is i (that_below i e)) ∙ e
 
 pub part_of : (rows : List Row) (i : ℕ) → has (parts rows) i ≡ true → (p : Part) × (the_line rows i ≡ line.Part p)
-part_of rows i e = go (the_line rows i) refl (that_passes part_line rows i e)
-  where
-    go : (l : Line) → the_line rows i ≡ l → part_line l ≡ true → (p : Part) × (the_line rows i ≡ line.Part p)
-    go (line.Part p) is t = (p, is)
-    go (line.Gate g) is t = absurd (both_ways false refl t)
+part_of rows i e = is_part (the_line rows i) (that_passes part_line rows i e)
 
 pub gate_of : (rows : List Row) (i : ℕ) → has (gates_of rows) i ≡ true → (g : Gate) × (the_line rows i ≡ line.Gate g)
 gate_of rows i e = go (the_line rows i) refl (that_passes (λ l. not (part_line l)) rows i e)
   where
     go : (l : Line) → the_line rows i ≡ l → not (part_line l) ≡ true → (g : Gate) × (the_line rows i ≡ line.Gate g)
-    go (line.Part p) is t = absurd (both_ways false refl t)
+    go (line.Part p) is t = cc
     go (line.Gate g) is t = (g, is)
 
 pub kind : (rows : List Row) (i : ℕ) → i < length rows → (has (parts rows) i ≡ true) ⊎ (has (gates_of rows) i ≡ true)
-kind rows i h = ⊎_elim (λ t. inl (that_is part_line rows i h ∙ t)) (λ f. inr (that_is (λ l. not (part_line l)) rows i h ∙ ap not f)) (cases_Bool (part_line (the_line rows i)))
+kind rows i h = grind (arith, that_is part_line rows i h, that_is (λ l. not (part_line l)) rows i h)
 
 -- ---- a gate holds when all of some choice do
 
@@ -123,4 +120,4 @@ module _ (rows : List Row) (s : ℕ) where
 
 -- line i of a word
 pub alone_in : (s i : ℕ) → s < 2 ^ 64 → has s i ≡ true → alone i ≡ 2 ^ i
-alone_in s i h e = cond-true (ltb i 64) (2 ^ i) 0 (lt-ltb i 64 (lt_below 64 s h i e))
+alone_in s i h e = grind (arith, nat_tests, lt_below 64 s h i e)

@@ -26,7 +26,7 @@ back s i h = same_set _ _ (λ j. grind (arith, has_xor, has_or, has_pow))
 
 -- ---- lists of parts
 
-is_part : (l : Line) → part_line l ≡ true → (q : Part) × (l ≡ line.Part q)
+pub is_part : (l : Line) → part_line l ≡ true → (q : Part) × (l ≡ line.Part q)
 is_part (line.Part q) e = (q, refl)
 is_part (line.Gate g) e = absurd (false≢true e)
 
