@@ -1,8 +1,9 @@
 -- Which sets a way stands for, and how the order of ways goes with the order of sets.
-use Rattle.std.proofs.Common.{◌≡◌, ℕ, ◌^◌, ◌<◌, ◌≤◌, Bool, true, false, cond, not, eqb, ltb, leb, List, [], ◌∷◌, length, sym, refl, ap, ◌∙◌, subst, ⊎_elim, arith}
+use Rattle.std.proofs.Common.{◌≡◌, ℕ, ◌^◌, ◌<◌, ◌≤◌, Bool, true, cond, not, leb, List, [], ◌∷◌, length, sym, refl, ap, ◌∙◌, subst, arith}
 use lib.Bits.{bit_and, bit_or, or_zero_l}
 use lib.Count.{ones}
-use Rattle.std.proofs.lemmas.Bool.{leb-true, le-leb, lt-ltb, eq-eqb, cases_eq, both_ways, cond-true}
+use Rattle.std.proofs.lemmas.Bool.{leb-true, le-leb}
+use Rattle.std.proofs.lemmas.Bool.Decides.{nat_tests}
 use Rattle.orders.specs.Lists.{In}
 use Rattle.orders.specs.Orders.{Total, lex, by}
 use Rattle.orders.proofs.Orders.{leb_total, by_ranked, lex_ranked, lex_first, lex_then, lex_both, lex_total}
@@ -16,7 +17,7 @@ use Rattle.tree.specs.declared.line.Line.TheVariants as line
 use Rattle.tree.specs.declared.line.Row.{Row}
 use Rattle.tree.proofs.Holding.{some_line, few_lines, holds_part}
 use Rattle.tree.proofs.Lowest.{set_order}
-use Rattle.tree.proofs.Sets.{same_lines, only_one, empty, or_in, in_left, in_right, meet_left, meet_right, in_meet, without, apart, ones_mono, ones_same}
+use Rattle.tree.proofs.Sets.{same_set, has_none, has_or, has_and, has_xor, has_pow, without, ones_mono, ones_same}
 use Rattle.ranking.specs.Models.{Model, Lawful}
 use Rattle.ranking.specs.SetOrder.{size_then_line, set_at_most}
 use Rattle.ranking.specs.Weights.{weigh}
@@ -37,8 +38,8 @@ pub record Kinds (rows : List Row) (w : Way) : Type 0 where
 pub kinds_adding : (rows : List Row) (w : Way) (c : ℕ) → Kinds rows w → Kinds rows (adding rows w c)
 kinds_adding rows w c k =
     record {
-      chosen = λ i e. ⊎_elim (k.chosen i) (meet_right c (parts rows) i) (or_in w.chosen _ i e);
-      gates = λ i e. ⊎_elim (k.gates i) (meet_right c (gates_of rows) i) (or_in w.gates _ i e);
+      chosen = λ i e. grind (arith, has_or, has_and, k.chosen i);
+      gates = λ i e. grind (arith, has_or, has_and, k.gates i);
     }
 
 pub kinds_closing : (rows : List Row) (w : Way) (g : ℕ) → has w.gates g ≡ true → Kinds rows w → Kinds rows (closing w g)
@@ -53,20 +54,21 @@ choice_below rows i c m = go (the_line rows i) m
 
 -- ---- the sets that a way stands for
 
+-- a part holds just where it has failed
+part_holds : (rows : List Row) (i s : ℕ) → has (parts rows) i ≡ true → has (holding rows s) i ≡ has s i
+part_holds rows i s e = let (p, is) = part_of rows i e in holds_part rows i p s is
+
 pub stands_adding : (rows : List Row) (w : Way) (c s : ℕ) → StandsFor rows w s → c ⊆ holding rows s → StandsFor rows (adding rows w c) s
 stands_adding rows w c s st h =
     record {
-      chosen = λ i e.
-          ⊎_elim (st.chosen i) (λ m. let (p, is) = part_of rows i (meet_right c (parts rows) i m) in sym (holds_part rows i p s is) ∙ h i (meet_left c (parts rows) i m)) (or_in w.chosen _ i e);
-      gates = λ i e. ⊎_elim (st.gates i) (λ m. h i (meet_left c (gates_of rows) i m)) (or_in w.gates _ i e);
+      chosen = λ i e. grind (arith, has_or, has_and, part_holds rows i s, st.chosen i, h i);
+      gates = λ i e. grind (arith, has_or, has_and, st.gates i, h i);
     }
 
 pub adding_stands : (rows : List Row) (w : Way) (c s : ℕ) → Below (length rows) c → StandsFor rows (adding rows w c) s → StandsFor rows w s × c ⊆ holding rows s
 adding_stands rows w c s low st = (
-  record { chosen = λ i e. st.chosen i (in_left w.chosen _ i e); gates = λ i e. st.gates i (in_left w.gates _ i e) },
-  λ i e.
-      ⊎_elim (λ a. let (p, is) = part_of rows i a in holds_part rows i p s is ∙ st.chosen i (in_right w.chosen _ i (in_meet c (parts rows) i e a)))
-      (λ a. st.gates i (in_right w.gates _ i (in_meet c (gates_of rows) i e a))) (kind rows i (low i e)),
+  record { chosen = λ i e. grind (arith, has_or, st.chosen i); gates = λ i e. grind (arith, has_or, st.gates i) },
+  λ i e. grind (arith, has_or, has_and, part_holds rows i s, st.chosen i, st.gates i, kind rows i (low i e)),
 )
 
 stands_closing : (rows : List Row) (w : Way) (g s : ℕ) → has w.gates g ≡ true → StandsFor rows w s → StandsFor rows (closing w g) s
@@ -76,7 +78,7 @@ closing_stands : (rows : List Row) (w : Way) (g s : ℕ) → has (holding rows s
 closing_stands rows w g s h st =
     record {
       chosen = st.chosen;
-      gates = λ i e. ⊎_elim (λ x. subst (λ j. has (holding rows s) j ≡ true) (sym x) h) (λ n. st.gates i (apart w.gates g i e n)) (cases_eq i g);
+      gates = λ i e. grind (arith, has_xor, has_pow, st.gates i);
     }
 
 -- a gate closed: what the way stood for is what the ways that enter stand for
@@ -115,11 +117,7 @@ by_size =
 
 -- a way with no open gate comes last by that
 finished_last : (w v : Way) → w.gates ≡ 0 → open_first v w ≡ true
-finished_last w v done = le-leb (finished v) (finished w) (subst (λ b. finished v ≤ cond b 1 0) (sym (eq-eqb w.gates 0 done)) (at_most_one (eqb v.gates 0)))
-  where
-    at_most_one : (b : Bool) → cond b 1 0 ≤ 1
-    at_most_one true = omega arith
-    at_most_one false = omega arith
+finished_last w v done = grind (arith, nat_tests)
 
 module _ {W : Type 0} (m : Model W) (law : Lawful m) (charge_of : Part → ℕ) (rows : List Row) where
   pub ways_total : Total (way_le m charge_of rows)
@@ -161,18 +159,13 @@ module _ {W : Type 0} (m : Model W) (law : Lawful m) (charge_of : Part → ℕ) 
 -- ---- the top, as chosen part or as open gate
 
 meet_one : (s i : ℕ) → bit_and (2 ^ i) s ≡ cond (has s i) (2 ^ i) 0
-meet_one s i = go (has s i) refl
-  where
-    go : (b : Bool) → has s i ≡ b → bit_and (2 ^ i) s ≡ cond b (2 ^ i) 0
-    go true h = same_lines _ _ (meet_left (2 ^ i) s) (λ j e. in_meet (2 ^ i) s j e (subst (λ k. has s k ≡ true) (sym (only_one i j e)) h))
-    go false h = empty _ (λ j e. both_ways _ h (subst (λ k. has s k ≡ true) (only_one i j (meet_left (2 ^ i) s j e)) (meet_right (2 ^ i) s j e)))
+meet_one s i = same_set _ _ (λ j. grind (arith, has_and, has_pow, has_none))
 
 module _ (rows : List Row) (k : keeps_rules rows ≡ true) where
   top_in : (test : Line → Bool) → cond (test (the_line rows (top rows))) (alone (top rows)) 0 ≡ bit_and (2 ^ top rows) (lines_that test rows)
   top_in test =
       let low : top rows < length rows = omega (arith, some_line rows k) in
-      let word : alone (top rows) ≡ 2 ^ top rows = cond-true (ltb (top rows) 64) (2 ^ top rows) 0 (lt-ltb (top rows) 64 (omega (arith, few_lines rows k))) in
-      ap (λ x. cond (test (the_line rows (top rows))) x 0) word ∙ ap (λ b. cond b (2 ^ top rows) 0) (sym (that_is test rows (top rows) low)) ∙ sym (meet_one (lines_that test rows) (top rows))
+      grind (arith, nat_tests, few_lines rows k, that_is test rows (top rows) low, meet_one (lines_that test rows) (top rows))
 
   top_of_kind : (test : Line → Bool) (l : Line) → the_line rows (top rows) ≡ l → bit_or 0 (bit_and (2 ^ top rows) (lines_that test rows)) ≡ cond (test l) (alone (top rows)) 0
   top_of_kind test l e = or_zero_l _ ∙ sym (top_in test) ∙ ap (λ x. cond (test x) (alone (top rows)) 0) e
