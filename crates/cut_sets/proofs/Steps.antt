@@ -3,7 +3,8 @@ use Rattle.std.proofs.Common.{◌≡◌, ℕ, zero, suc, ◌+◌, ◌*◌, ◌^�
 use lib.Bits.{bit_xor}
 use lib.Count.{ones}
 use lib.ListN.{length-map}
-use Rattle.std.proofs.lemmas.Bool.{both_ways, cases_Bool, cases_eq, cases_lt, cases_order}
+use Rattle.std.proofs.lemmas.Bool.{both_ways, cases_Bool, cases_eq, cases_lt}
+use Rattle.std.proofs.lemmas.Bool.Decides.{nat_tests}
 use Rattle.orders.specs.Lists.{In, total}
 use Rattle.orders.proofs.Lists.{in_map, total_le, length_le}
 use Rattle.orders.proofs.Sorted.{total_insert_all}
@@ -16,11 +17,10 @@ use Rattle.tree.specs.declared.line.Line.{Line}
 use Rattle.tree.specs.declared.line.Line.TheVariants as line
 use Rattle.tree.specs.declared.line.Row.{Row}
 use Rattle.tree.proofs.Holding.{children_below, few_children}
-use Rattle.tree.proofs.Sets.{or_in, without, has_le, below_lt, meet_left}
+use Rattle.tree.proofs.Sets.{has_or, has_and, has_xor, has_pow, has_le, below_lt}
 use Rattle.tree.proofs.Words.{highest, one_highest, no_highest}
 use Rattle.ranking.specs.Models.{Model}
 use Rattle.choices.proofs.Choosing.{number, binom_le}
-use Rattle.cut_sets.specs.Cuts.{gates_of}
 use Rattle.cut_sets.specs.Ways.{way_le}
 use Rattle.cut_sets.specs.WaitingRule.{Search, search_of, some_within, adding, closing, choices_of, choices_at, entering, Step, struck, closed, gave, Blocked}
 use Rattle.cut_sets.specs.Laws.{AsManyEnterAsChoices, StepsOneWay}
@@ -61,7 +61,7 @@ module _ {W : Type 0} (m : Model W) (charge_of : Part → ℕ) (rows : List Row)
 
   -- a state where nothing waits has no first way
   no_first : {w : Way} {ws : List Way} → ◌≡◌ {A = List Way} [] (w ∷ ws) → ⊥
-  no_first e = let z : ◌≡◌ {A = ℕ} 0 1 = cc in omega arith
+  no_first e = cc
 
   same_first : {w v : Way} {ws vs : List Way} → ◌≡◌ {A = List Way} (w ∷ ws) (v ∷ vs) → (v ≡ w) × (vs ≡ ws)
   same_first e = (cc, cc)
@@ -142,14 +142,12 @@ module _ (rows : List Row) (k : keeps_rules rows ≡ true) where
   lower_gates : (w v : Way) (g : ℕ) → Highest w.gates g → In v (entering rows w g) → v.gates < w.gates
   lower_gates w v g high m =
       let (c, n, is) = in_map (adding rows (closing w g)) v (choices_at rows g) m in
-      let a = below_lt g v.gates (subst (λ (x : Way). Below g x.gates) (sym is) (λ i e. ⊎_elim (left i) (λ h. choice_below rows g c n i (meet_left c (gates_of rows) i h)) (or_in _ _ i e))) in
+      let a = below_lt g v.gates (subst (λ (x : Way). Below g x.gates) (sym is) (λ i e. grind (arith, has_or, has_and, left i, choice_below rows g c n i))) in
       let b = has_le g w.gates high.there in
       omega arith
     where
       left : (i : ℕ) → has (bit_xor w.gates (2 ^ g)) i ≡ true → i < g
-      left i e =
-          let (h, n) = without w.gates g i e high.there in
-          ⊎_elim (λ x. absurd (n x)) (⊎_elim (λ x. x) (λ x. absurd (both_ways _ (high.none_above i x) h))) (cases_order i g)
+      left i e = grind (arith, has_xor, has_pow, nat_tests, high.none_above i, high.there)
 
   pub entering_less : (w : Way) (g : ℕ) → Highest w.gates g → total count_of (entering rows w g) < count_of w
   entering_less w g high = all_less w.gates (entering rows w g) (λ v n. lower_gates w v g high n) (few_enter rows k w g)

@@ -6,7 +6,7 @@ use Rattle.std.proofs.lemmas.Bool.{leb-true, le-leb}
 use Rattle.std.proofs.lemmas.Bool.Decides.{nat_tests}
 use Rattle.orders.specs.Lists.{In}
 use Rattle.orders.specs.Orders.{Total, lex, by}
-use Rattle.orders.proofs.Orders.{leb_total, by_ranked, lex_ranked, lex_first, lex_then, lex_both, lex_total}
+use Rattle.orders.proofs.Orders.{leb_total, by_ranked, lex_first, lex_then, lex_total, keyed_total}
 use Rattle.tree.specs.Holding.{the_line, top, holding}
 use Rattle.tree.specs.Lines.{part_line}
 use Rattle.tree.specs.Rules.{keeps_rules}
@@ -102,13 +102,7 @@ same_way : (w v : Way) → w.chosen ≡ v.chosen → w.gates ≡ v.gates → w �
 same_way w v p q i = record { chosen = p i; gates = q i }
 
 by_lines : Total (lex lowest_chosen lowest_gate)
-by_lines =
-    record {
-      ranked = lex_ranked lowest_chosen lowest_gate (by_ranked (λ w. w.chosen) set_le set_order.ranked) (by_ranked (λ w. w.gates) set_le set_order.ranked);
-      antisymmetric = λ w v h k.
-          let (a, b, c, d) = lex_both lowest_chosen lowest_gate w v h k in
-          same_way w v (set_order.antisymmetric w.chosen v.chosen a b) (set_order.antisymmetric w.gates v.gates c d);
-    }
+by_lines = keyed_total (λ w. w.chosen) (λ w. w.gates) set_le set_le set_order set_order same_way
 
 by_size : Total size_then_lines
 by_size =

@@ -63,19 +63,13 @@ module _ {E : Type 0} (p q : E → E → Bool) where
 pub same_pair : {A B : Type 0} (a b : A × B) → a.0 ≡ b.0 → a.1 ≡ b.1 → a ≡ b
 same_pair (x, y) (z, w) e f = cc
 
--- pairs, by what stands first and then by what stands second
-module _ {A B : Type 0} (p : A → A → Bool) (q : B → B → Bool) where
-  abbrev first : A × B → A × B → Bool
-  first = by (λ w. w.0) p
-
-  abbrev second : A × B → A × B → Bool
-  second = by (λ w. w.1) q
-
-  pub pair_total : Total p → Total q → Total (lex first second)
-  pair_total o u =
+-- by one key and then by another, where the two keys tell any two items apart
+module _ {E A B : Type 0} (f : E → A) (g : E → B) (p : A → A → Bool) (q : B → B → Bool) where
+  pub keyed_total : Total p → Total q → ((a b : E) → f a ≡ f b → g a ≡ g b → a ≡ b) → Total (lex (by f p) (by g q))
+  keyed_total o u same =
       record {
-        ranked = lex_ranked first second (by_ranked (λ (w : A × B). w.0) p o.ranked) (by_ranked (λ (w : A × B). w.1) q u.ranked);
+        ranked = lex_ranked (by f p) (by g q) (by_ranked f p o.ranked) (by_ranked g q u.ranked);
         antisymmetric = λ a b h k.
-            let (x, y, z, w) = lex_both first second a b h k in
-            same_pair a b (o.antisymmetric a.0 b.0 x y) (u.antisymmetric a.1 b.1 z w);
+            let (x, y, z, w) = lex_both (by f p) (by g q) a b h k in
+            same a b (o.antisymmetric (f a) (f b) x y) (u.antisymmetric (g a) (g b) z w);
       }

@@ -5,7 +5,7 @@ use Rattle.std.proofs.Common.{arith}
 use Rattle.std.proofs.lemmas.Bool.{le-leb}
 use Rattle.tree.specs.declared.line.Part.{Part}
 use Rattle.ranking.specs.Models.{Model, Lawful, LawfulJoin, stopped, by_number, paired}
-use Rattle.orders.proofs.Orders.{leb_total, same_pair, pair_total}
+use Rattle.orders.proofs.Orders.{leb_total, same_pair, keyed_total}
 
 -- ---- sums that stop
 
@@ -37,7 +37,7 @@ module _ {U L : Type 0} (u : Model U) (l : Model L) (p : Lawful u) (q : Lawful l
   pub paired_lawful : Lawful (paired u l)
   paired_lawful =
       record {
-        order = pair_total u.le l.le p.order q.order;
+        order = keyed_total (λ w. w.0) (λ w. w.1) u.le l.le p.order q.order same_pair;
         commutative = λ a b. cc (p.commutative a.0 b.0, q.commutative a.1 b.1);
         associative = λ a b c. cc (p.associative a.0 b.0 c.0, q.associative a.1 b.1 c.1);
         unit = λ a. same_pair _ a (p.unit a.0) (q.unit a.1);

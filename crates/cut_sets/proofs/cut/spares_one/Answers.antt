@@ -25,5 +25,5 @@ one_of P false h low =
 pub returns : goal.returns
 returns g c =
     let P = Spares (g.T.Tree.meaning c.args.tree.now) c.args.set in
-    let cases = cases_from_any _ _ _ P (λ i. P i → ⊥) c.any.ensures.ran (YieldsList-from_range 0 64 64 refl (omega arith)) (λ x q k. search rules) (λ x q k. search rules) in
-    one_of P c.any.result cases (λ i h. lt_below 64 c.args.set c.ranges.set.fits i h.0)
+    one_of P c.any.result (cases_from_any _ _ _ P (λ i. P i → ⊥) c.any.ensures.ran (YieldsList-from_range 0 64 64 refl (omega arith)) (λ x q k. search rules) (λ x q k. search rules))
+    (λ i h. lt_below 64 c.args.set c.ranges.set.fits i h.0)
