@@ -23,10 +23,12 @@ grown_below price growth i p g h =
     omega (arith, grown_within price growth i g, mul-le-mul_left price few)
 
 -- so there is room in 64 bits for one more rise
-pub room : (price growth i cents : ℕ) → cents ≡ grown price growth i → price < 2 ^ 32 → growth ≤ 200 → i ≤ 10 → (cents * growth + 999 < 2 ^ 64) × (cents + rise growth cents < 2 ^ 64)
-room price growth i cents e p g h =
-    let small = grown_below price growth i p g h in
-    (omega (arith, mul-le-mul_left cents g), omega (arith, rise_within growth cents g))
+module _ (price growth i cents : ℕ) (e : cents ≡ grown price growth i) (p : price < 2 ^ 32) (g : growth ≤ 200) (h : i ≤ 10) where
+  pub room_for_rise : cents * growth + 999 < 2 ^ 64
+  room_for_rise = omega (arith, grown_below price growth i p g h, mul-le-mul_left cents g)
+
+  pub room_for_sum : cents + rise growth cents < 2 ^ 64
+  room_for_sum = omega (arith, grown_below price growth i p g h, rise_within growth cents g)
 
 pub grown_more : (price growth i cents more : ℕ) → cents ≡ grown price growth i → more ≡ rise growth cents → cents + more ≡ grown price growth (i + 1)
 grown_more price growth i cents more e f = cc (ap (grown price growth) (add-one i))
