@@ -4,7 +4,7 @@ use Rattle.std.proofs.lemmas.Bool.{both_ways, cases_Bool, or_cases, or_left, or_
 use Rattle.orders.specs.Lists.{In, Rising}
 use Rattle.orders.specs.Orders.{Ranked}
 use Rattle.orders.specs.Sorted.{Ascending, insert_all}
-use Rattle.orders.proofs.Lists.{in_front, in_back, in_append, in_map, map_in}
+use Rattle.orders.proofs.Lists.{in_front, in_back, in_end, in_map, map_in}
 use Rattle.orders.proofs.Sorted.{refl_le, other_way, rising_end, in_insert_all, insert_all_in, ascending_insert_all, first_least}
 use Rattle.tree.specs.Holding.{top, holding, holds}
 use Rattle.tree.specs.Rules.{keeps_rules}
@@ -26,7 +26,7 @@ use Rattle.cut_sets.proofs.Cuts.{that_below}
 use Rattle.cut_sets.proofs.Ways.{Kinds, kinds_adding, kinds_closing, stands_adding, adding_stands, spread, gathered, ways_total, no_heavier, no_more, exact}
 
 none_in : (s : ℕ) → 0 ⊆ s
-none_in s i e = absurd (both_ways _ (has_none i) e)
+none_in s i e = grind (arith, has_none)
 
 -- ---- a given set within
 
@@ -36,7 +36,7 @@ record GivenWithin (sets : List ℕ) (u : ℕ) : Type 0 where
   sub : set ⊆ u
 
 given_in : (sets : List ℕ) (u : ℕ) → some_within sets u ≡ true → GivenWithin sets u
-given_in [] u e = absurd (both_ways false refl e)
+given_in [] u e = cc
 given_in (g ∷ gs) u e =
     ⊎_elim (λ h. record { set = g; given = inl refl; sub = within_sub g u h }) (λ h. let a = given_in gs u h in record { set = a.set; given = inr a.given; sub = a.sub })
     (or_cases (within g u) (some_within gs u) e)
@@ -83,7 +83,7 @@ module _ {W : Type 0} (m : Model W) (law : Lawful m) (charge_of : Part → ℕ) 
   before_by : (s u : ℕ) → at_most u s ≡ false → Before s u
   before_by s u f =
       let order = (sets_total m law charge_of rows).ranked in
-      (other_way at_most order u s f, λ e. both_ways _ f (subst (λ x. at_most x s ≡ true) e (refl_le at_most order s)))
+      (other_way at_most order u s f, λ e. grind (arith, refl_le at_most order s))
 
   record Kept (d : Search) : Type 0 where
     ascending : Ascending le d.waiting
@@ -101,9 +101,9 @@ module _ {W : Type 0} (m : Model W) (law : Lawful m) (charge_of : Part → ℕ) 
       let blank : Way = record { chosen = 0; gates = 0 } in
       record {
         ascending = (tt, tt);
-        kinds = λ w m. ⊎_elim (λ e. subst (Kinds rows) (sym e) (kinds_adding rows blank (2 ^ top rows) (record { chosen = none_in (parts rows); gates = none_in (gates_of rows) }))) absurd m;
-        sound = λ w m s st.
-            ⊎_elim (λ e. (adding_stands rows blank (2 ^ top rows) s (λ i h. let a = only_one (top rows) i h in let b = some_line rows k in omega arith) (subst (λ v. StandsFor rows v s) e st)).1 (top rows) (has_one (top rows))) absurd m;
+        kinds = in_end {P = Kinds rows} [] (top_way rows) (λ w. absurd) (kinds_adding rows blank (2 ^ top rows) (record { chosen = none_in (parts rows); gates = none_in (gates_of rows) }));
+        sound = in_end {P = λ w. (s : ℕ) → StandsFor rows w s → holds rows s (top rows) ≡ true} [] (top_way rows) (λ w. absurd)
+            (λ s st. (adding_stands rows blank (2 ^ top rows) s (λ i h. let a = only_one (top rows) i h in let b = some_line rows k in omega arith) st).1 (top rows) (has_one (top rows)));
         complete = λ u c.
             inr (record {
               way = top_way rows;
@@ -193,10 +193,9 @@ module _ {W : Type 0} (m : Model W) (law : Lawful m) (charge_of : Part → ℕ) 
             kinds = λ v n. d.kinds v (inr n);
             sound = λ v n. d.sound v (inr n);
             complete = λ u c. ⊎_elim (λ a. inl (still_given sets w.chosen u a)) (λ a. waits_cases rows w ws u a (λ st. inl (now_given sets w.chosen u st.chosen)) inr) (d.complete u c);
-            minimal = λ g n. ⊎_elim (d.minimal g) (⊎_elim (λ e. subst (Minimal rows) (sym e) (record { cuts = itself; least = smallest })) absurd) (in_append g sets _ n);
+            minimal = in_end {P = Minimal rows} sets w.chosen d.minimal (record { cuts = itself; least = smallest });
             in_order = rising_end Before sets w.chosen d.in_order (λ x n. d.first x w.chosen n itself (none_given sets w.chosen fresh));
-            first = λ g u n c f.
-                ⊎_elim (λ a. d.first g u a c (λ b. f (still_given sets w.chosen u b))) (⊎_elim (λ e. subst (λ x. Before x u) (sym e) (precedes u c f)) absurd) (in_append g sets _ n);
+            first = λ g u n c f. in_end {P = λ x. Before x u} sets w.chosen (λ x a. d.first x u a c (λ b. f (still_given sets w.chosen u b))) (precedes u c f) g n;
           }
 
   module _ (slots : ℕ) where

@@ -60,6 +60,12 @@ module _ {W : Type 0} (m : Model W) (law : Lawful m) (charge_of : Part → ℕ) 
   one_way : StepsOneWay m charge_of rows slots
   one_way = steps_one_way rows k m charge_of slots
 
+  blocked_ends : (e : Search) → Stuck e → Ends e
+  blocked_ends e b f s = one_way.blocked_stays e f b s
+
+  empty_ends : (e : Search) → e.waiting ≡ [] → Ends e
+  empty_ends e z f s = one_way.empty_stays e f z s
+
   further : (d e f : Search) → To d e → To e f → To d f
   further d e f none b = b
   further d e f (then {e = g} s a) b = then s (further g e f a b)
@@ -166,7 +172,7 @@ module _ {W : Type 0} (m : Model W) (law : Lawful m) (charge_of : Part → ℕ) 
     blocks_here : Out (length d.given) → (e : Search) × Block d e
     blocks_here (e, a, n, b) =
         ⊎_elim (λ c. (e, (c, same c, b)))
-        (λ c. let p = at_end e d (λ f s. one_way.blocked_stays e f b s) c in (e, (subst (λ x. To d x) p none, ap (λ (x : Search). x.given) (sym p), b))) (one_run (loaded rows) d e reached a)
+        (λ c. let p = at_end e d (blocked_ends e b) c in (e, (subst (λ x. To d x) p none, ap (λ (x : Search). x.given) (sym p), b))) (one_run (loaded rows) d e reached a)
       where
         only : (more : List ℕ) → e.given ≡ d.given ++ more → e.given ≡ d.given
         only [] is = is ∙ append-nil d.given
@@ -179,12 +185,12 @@ module _ {W : Type 0} (m : Model W) (law : Lawful m) (charge_of : Part → ℕ) 
     runs_out e (a, p, b) = (e, further (loaded rows) d e reached a, ap length p, b)
 
     not_out : (s : ℕ) (f : Search) → Give d s f → Out (length d.given) → ⊥
-    not_out s f g x = let (e, (a, p, b)) = blocks_here x in ends_short d e f s a p (λ h z. one_way.blocked_stays e h b z) g
+    not_out s f g x = let (e, (a, p, b)) = blocks_here x in ends_short d e f s a p (blocked_ends e b) g
 
     not_empty : (f : Search) → Empty d f → Out (length d.given) → ⊥
     not_empty f (c, q, z) x =
         let (e, (a, p, b)) = blocks_here x in
-        let same : e ≡ f = one_end d e f a c (λ g s. one_way.blocked_stays e g b s) (λ g s. one_way.empty_stays f g z s) in
+        let same : e ≡ f = one_end d e f a c (blocked_ends e b) (empty_ends f z) in
         one_way.empty_not_blocked f z (subst Stuck same b)
 
     same_state : (s u : ℕ) (f g : Search) → Give d s f → Give d u g → f ≡ g
@@ -207,8 +213,8 @@ module _ {W : Type 0} (m : Model W) (law : Lawful m) (charge_of : Part → ℕ) 
           blocks = (λ (e, b). runs_out e b, blocks_here);
           first_left = λ s f g. (remained s f g, foremost s f g);
           one_set = λ s u f g a b. ((sets_total m law charge_of rows).antisymmetric s u (foremost s f a u (remained u g b)) (foremost u g b s (remained s f a)), same_state s u f g a b);
-          one_empty = λ e f (a, p, z) (b, q, y). one_end d e f a b (λ g s. one_way.empty_stays e g z s) (λ g s. one_way.empty_stays f g y s);
-          one_block = λ e f (a, p, z) (b, q, y). one_end d e f a b (λ g s. one_way.blocked_stays e g z s) (λ g s. one_way.blocked_stays f g y s);
+          one_empty = λ e f (a, p, z) (b, q, y). one_end d e f a b (empty_ends e z) (empty_ends f y);
+          one_block = λ e f (a, p, z) (b, q, y). one_end d e f a b (blocked_ends e z) (blocked_ends f y);
         }
       where
         come : Outcome d

@@ -1,4 +1,6 @@
 // Which lines of a tree hold, and whether a set is a minimal cut set.
+// A tree and a set of its lines stay two arguments: a tree is asked about many sets, so a struct of both would only be made
+// for each call and taken apart in it.
 ghost use Rattle.std.specs.Prelude.{◌≡◌, ℕ, ◌≤◌, Bool};
 ghost use Rattle.tree.specs.Holding.{the_line, told, line_holds, holding, HoldingLaws};
 ghost use Rattle.tree.specs.Sets.{Tells};

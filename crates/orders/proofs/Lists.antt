@@ -26,6 +26,10 @@ module _ {E : Type 0} where
   in_append x (z ∷ zs) ys (inl e) = inl (inl e)
   in_append x (z ∷ zs) ys (inr m) = ⊎_elim (λ a. inl (inr a)) inr (in_append x zs ys m)
 
+  -- what holds of all of a list and of one more after it
+  pub in_end : {P : E → Type 0} (xs : List E) (y : E) → ((x : E) → In x xs → P x) → P y → (x : E) → In x (xs ++ (y ∷ [])) → P x
+  in_end {P} xs y h p x m = ⊎_elim (h x) (⊎_elim (λ e. subst P (sym e) p) absurd) (in_append x xs (y ∷ []) m)
+
   pub some_in : (xs : List E) → 1 ≤ length xs → (x : E) × In x xs
   some_in [] h = absurd (omega arith)
   some_in (x ∷ xs) h = (x, inl refl)

@@ -5,6 +5,8 @@ ghost use Rattle.ranking.specs.Models.{Model, Lawful};
 use tree::line::Part;
 
 // A way to weigh sets of parts and to say which of two weights comes first. Its calls keep nothing and refuse nothing.
+// A part and its charge stay two arguments: parts come from a tree and charges from terms, so a struct of both would only
+// be made for each call and taken apart in it.
 pub trait Ranking {
     type Weight: Copy;
 
