@@ -11,7 +11,7 @@ use Rattle.tree.proofs.Sets.{has_or, has_one, has_pow, in_right}
 use Rattle.kinds.specs.Fixings.{childless, fixed_line, is_part, relined, fixed_rows, overlaid_line, overlaid_row, overlaid_from, overlaid}
 use Rattle.kinds.specs.declared.fixing.State.{State}
 use Rattle.kinds.specs.declared.fixing.State.TheVariants.{Failed, Sound}
-use Rattle.kinds.specs.Overlays.{overlaid_length}
+use Rattle.kinds.proofs.Overlaid.{overlaid_length}
 
 -- ---- a set with one line more
 

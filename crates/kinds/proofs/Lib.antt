@@ -1,3 +1,4 @@
 pub mod LanternLaws
+pub mod Overlaid
 pub mod Fixes
 pub mod Held

@@ -1,5 +1,6 @@
 -- The number and the layer of each refusal of a lantern and of a fixing; neither names a line or a field.
-use Rattle.std.specs.Prelude.{ℕ}
+use Rattle.std.specs.Prelude.{ℕ, List, [], ◌∷◌, ◌++◌, codes}
+use Rattle.std.specs.Fmt.{decimal}
 use Rattle.kinds.specs.declared.faults.LanternCause.TheVariants.{OutOfLimits}
 use Rattle.kinds.specs.declared.faults.FixingCause.TheVariants.{NotPart}
 use Rattle.kinds.specs.declared.faults.TreeFault.{TreeFault}
@@ -18,3 +19,11 @@ layer_of (Lantern c) = 84
 -- what a refusal says: number, layer, line and field
 abbrev pub told : TreeFault → ℕ × ℕ × ℕ × ℕ
 told f = (number_of f.layer, layer_of f.layer, f.line, f.field)
+
+-- a refusal in this layer, of no line of a file
+abbrev pub of_layer : TreeLayer → TreeFault
+of_layer layer = record { line = 0; field = 0; layer = layer }
+
+-- as it is printed: the number in decimal digits and the letter of the layer
+abbrev pub refusal_text : TreeFault → List ℕ
+refusal_text f = codes "refused " ++ decimal (number_of f.layer) ++ codes ", layer " ++ layer_of f.layer ∷ []

@@ -1,5 +1,5 @@
 -- A tree with some of its parts fixed as failed or as sound, and what that does to holding.
-use Rattle.std.specs.Prelude.{ℕ, zero, suc, ◌^◌, Bool, false, cond, List, [], ◌∷◌, Some, None, Ok, Err, Option, Result, bit_and, bit_or, bit_xor}
+use Rattle.std.specs.Prelude.{ℕ, zero, suc, ◌^◌, Bool, false, cond, List, [], ◌∷◌, Some, None, Ok, Err, Option, Result, codes, bit_and, bit_or, bit_xor}
 use Rattle.tree.specs.Lines.{line_at, part_line}
 use Rattle.tree.specs.Sets.{has}
 use Rattle.tree.specs.declared.line.Line.{Line}
@@ -17,6 +17,11 @@ childless need = Gate (record { children = 0; need = need })
 abbrev pub fixed_line : State → Line
 fixed_line Failed = childless 0
 fixed_line Sound = childless 1
+
+-- as it is printed
+abbrev pub state_text : State → List ℕ
+state_text Failed = codes "failed"
+state_text Sound = codes "sound"
 
 -- ---- one part fixed
 

@@ -1,12 +1,10 @@
 -- Rows that are made from their numbers, and the rows of a lantern: each keeps its rule, and no two names are the same.
-use Rattle.std.specs.Prelude.{◌≡◌, ℕ, zero, suc, ◌+◌, ◌-◌, ◌*◌, ◌/◌, ◌%◌, ◌<◌, ◌≤◌, true, false, List, [], ◌∷◌, map, length, Some, None, count_ones, nat_lt, refl}
-use Rattle.std.proofs.Common.{sym, ap, ap₂, subst, ◌∙◌, zero-add, arith}
-use Rattle.std.specs.List.{range_with_len, slice_get}
-use Rattle.std.proofs.lemmas.List.FromFn.{length-map-range_with_len, get_or-map-range_with_len}
-use Rattle.std.proofs.lemmas.Option.{slice_get-get_or, slice_get_past}
+use Rattle.std.specs.Prelude.{◌≡◌, ℕ, zero, suc, ◌+◌, ◌-◌, ◌*◌, ◌/◌, ◌%◌, ◌<◌, ◌≤◌, true, false, List, [], ◌∷◌, map, length, count_ones, nat_lt, refl}
+use Rattle.std.proofs.Common.{sym, ap, ap₂, subst, ◌∙◌, arith}
+use Rattle.std.specs.List.{range_with_len}
+use Rattle.std.proofs.lemmas.List.FromFn.{length-map-range_with_len}
 use Rattle.std.proofs.lemmas.Bool.{and_from, or_from, not_from_false, lt-ltb, le-leb, ne_eqb, ltb-true, ltb-false, cond_both, cond-false}
 use Rattle.std.proofs.lemmas.Bool.Decides.{nat_tests}
-use Rattle.tree.specs.Holding.{the_line}
 use Rattle.tree.specs.Names.{name_byte, name_bytes, name_ok, same_name, spelled}
 use Rattle.tree.specs.Rules.{gate_ok, line_ok, lines_ok, among, names_ok, names_of, keeps_rules}
 use Rattle.tree.specs.declared.line.Part.{Part}
@@ -21,19 +19,6 @@ use Rattle.kinds.specs.Runs.{run_ones, run_below}
 -- ---- rows made from their numbers
 
 module _ (f : ℕ → Row) where
-  pub nth_made : (n i : ℕ) → i < n → slice_get (map f (range_with_len 0 n)) i ≡ Some (f i)
-  nth_made n i h =
-      slice_get-get_or (map f (range_with_len 0 n)) i (f 0) (omega (arith, length-map-range_with_len f 0 n))
-      ∙ ap Some (get_or-map-range_with_len f 0 n i i (f 0) h (zero-add i))
-
-  pub nth_unmade : (n i : ℕ) → n ≤ i → slice_get (map f (range_with_len 0 n)) i ≡ None
-  nth_unmade n i h = slice_get_past (map f (range_with_len 0 n)) i (omega (arith, length-map-range_with_len f 0 n))
-
-  pub line_made : (a n i j : ℕ) → i < n → a + i ≡ j → the_line (map f (range_with_len a n)) i ≡ (f j).line
-  line_made a zero i j h e = absurd (omega arith)
-  line_made a (suc n) zero j h e = ap (λ k. (f k).line) (let x : a ≡ j = omega arith in x)
-  line_made a (suc n) (suc i) j h e = line_made (a + 1) n i j (omega arith) (omega arith)
-
   lines_made : (a n : ℕ) → ((i : ℕ) → i < a + n → line_ok i (f i).line ≡ true) → lines_ok a (map f (range_with_len a n)) ≡ true
   lines_made a zero h = refl
   lines_made a (suc n) h =
@@ -139,19 +124,3 @@ module _ (t p q r : ℕ) (part : Part) where
   lantern_ruled e =
       let m = limits t p q r part e in
       rules_made (lantern_row t p q r part) (t * p + t + 1) (omega arith) m.few (λ i _. row_ruled m i) (λ i l. row_named i (omega arith)) (λ i j k l. rows_apart i j k (omega arith))
-
-  pub lantern_length : length (lantern_rows t p q r part) ≡ t * p + t + 1
-  unfolding lantern_rows
-  lantern_length = length-map-range_with_len (lantern_row t p q r part) 0 (t * p + t + 1)
-
-  pub lantern_nth : (i : ℕ) → i < t * p + t + 1 → slice_get (lantern_rows t p q r part) i ≡ Some (lantern_row t p q r part i)
-  unfolding lantern_rows
-  lantern_nth i h = nth_made (lantern_row t p q r part) (t * p + t + 1) i h
-
-  pub lantern_past : (i : ℕ) → t * p + t + 1 ≤ i → slice_get (lantern_rows t p q r part) i ≡ None
-  unfolding lantern_rows
-  lantern_past i h = nth_unmade (lantern_row t p q r part) (t * p + t + 1) i h
-
-  pub lantern_the_line : (i : ℕ) → i < t * p + t + 1 → the_line (lantern_rows t p q r part) i ≡ (lantern_row t p q r part i).line
-  unfolding lantern_rows
-  lantern_the_line i h = line_made (lantern_row t p q r part) 0 (t * p + t + 1) i i h (zero-add i)

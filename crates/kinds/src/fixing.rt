@@ -1,23 +1,34 @@
 // A tree over any station tree, some of whose parts are fixed as failed or as sound.
-ghost use Rattle.std.specs.Prelude.{◌≡◌, ℕ, true, length, Ok};
+ghost use Rattle.std.specs.Prelude.{◌≡◌, ℕ, true, Ok, Some};
 ghost use Rattle.std.specs.Result.{result_map_both};
-ghost use Rattle.tree.specs.Lines.{line_at, name_at};
+ghost use Rattle.tree.specs.Lines.{line_at};
 ghost use Rattle.tree.specs.Holding.{holding};
 ghost use Rattle.kinds.specs.Faults.{told};
-ghost use Rattle.kinds.specs.Fixings.{fixed_over, overlaid_line, is_part, fixed_rows, fix_answer, in_state};
-ghost use Rattle.kinds.specs.declared.fixing.State.TheVariants as fixed;
+ghost use Rattle.kinds.specs.Fixings.{fixed_over, overlaid_line, fixed_rows, fix_answer, in_state, is_part, state_text};
 ghost use Rattle.kinds.specs.Overlays.{overlaid_ruled};
 
 use crate::faults::{FixingCause, TreeFault, TreeLayer};
+use std::fmt;
 use tree::line::{Gate, Line, Name};
 use tree::line_set::{alone, has};
 use tree::station_tree::Tree;
 
 // How a part is fixed.
-#[derive(Clone, Copy)]
+#[derive(Clone, Copy, Debug, PartialEq, Eq)]
 pub enum State {
     Failed,
     Sound,
+}
+
+impl fmt::Display for State {
+    ghost output = { λ state. Some (state_text state) };
+
+    fn fmt<W: fmt::Write>(&self, f: &mut fmt::Formatter<W>) -> fmt::Result {
+        f.write_str(match self {
+            State::Failed => "failed",
+            State::Sound => "sound",
+        })
+    }
 }
 
 // The lines fixed here, as sets, and the tree below.
@@ -34,35 +45,33 @@ impl<T: Tree> Tree for Fixing<T> {
 
     ghost ruled = { λ t. overlaid_ruled t.failed t.sound (T.Tree.meaning t.inner) (T.Tree.ruled t.inner) };
 
+    #[tactic(auto, using(crate::proofs::Overlaid::overlaid_length))]
     fn count(&self) -> usize {
-        self.count_below()
+        self.inner.count()
     }
 
+    #[tactic(auto, using(crate::proofs::Overlaid::overlaid_at))]
     fn line(&self, i: usize) -> Option<Line> {
-        self.laid_over(i, self.inner.line(i))
+        self.inner.line(i).map(|line| self.standing(i, line))
     }
 
+    #[tactic(auto, using(crate::proofs::Overlaid::overlaid_name))]
     fn name(&self, i: usize) -> Option<Name> {
-        self.name_below(i)
-    }
-}
-
-fn not_part() -> TreeFault
-    ensures { told result ≡ (14, 88, 0, 0) }
-{
-    TreeFault {
-        line: 0,
-        field: 0,
-        layer: TreeLayer::Fixing(FixingCause::NotPart),
+        self.inner.name(i)
     }
 }
 
 impl<T: Tree> Fixing<T> {
     // Nothing is fixed at first.
+    #[tactic(auto, using(crate::proofs::Overlaid::overlaid_none))]
     pub fn new(inner: T) -> Self
         ensures means_the_tree_below { fixed_over T.Tree.meaning result ≡ T.Tree.meaning inner }
     {
-        Self::marked(inner, 0, 0)
+        Fixing {
+            inner,
+            failed: 0,
+            sound: 0,
+        }
     }
 
     // Fixes a line that is still a part here; refuses any other, and then changes nothing. From then on a line holds for
@@ -73,88 +82,36 @@ impl<T: Tree> Fixing<T> {
         ensures fixes_that_part { fixed_over T.Tree.meaning self.new ≡ fixed_rows (fixed_over T.Tree.meaning self.old) line state }
         ensures changes_holding { result ≡ Ok tt → (s : ℕ) → holding (fixed_over T.Tree.meaning self.new) s ≡ holding (fixed_over T.Tree.meaning self.old) (in_state state line s) }
     {
-        if !self.has_part(line) {
-            return Err(not_part());
+        if !self.line(line).is_some_and(Line::is_part) {
+            return Err(TreeLayer::Fixing(FixingCause::NotPart).into());
         }
-        match state {
-            State::Failed => self.mark_failed(line),
-            State::Sound => self.mark_sound(line),
-        }
+        self.mark(line, state);
         Ok(())
     }
 
-    fn marked(inner: T, failed: u64, sound: u64) -> Self
-        ensures { failed ≡ 0 → sound ≡ 0 → fixed_over T.Tree.meaning result ≡ T.Tree.meaning inner }
+    #[tactic(auto, using(crate::proofs::Fixes::after_failed, crate::proofs::Fixes::after_sound, crate::proofs::Held::fixed_holding))]
+    fn mark(&mut self, line: usize, state: State)
+        requires { is_part (line_at (fixed_over T.Tree.meaning self.old) line) ≡ true }
+        ensures means { fixed_over T.Tree.meaning self.new ≡ fixed_rows (fixed_over T.Tree.meaning self.old) line state }
+        ensures holds { (s : ℕ) → holding (fixed_over T.Tree.meaning self.new) s ≡ holding (fixed_over T.Tree.meaning self.old) (in_state state line s) }
     {
-        Fixing {
-            inner,
-            failed,
-            sound,
+        match state {
+            State::Failed => self.failed |= alone(line),
+            State::Sound => self.sound |= alone(line),
         }
     }
 
-    fn count_below(&self) -> usize
-        ensures { result ≡ length (fixed_over T.Tree.meaning self.now) }
-    {
-        self.inner.count()
-    }
-
-    fn name_below(&self, i: usize) -> Option<Name>
-        ensures { result ≡ name_at (fixed_over T.Tree.meaning self.now) i }
-    {
-        self.inner.name(i)
-    }
-
-    // What stands here for a line of the tree below.
+    // What stands here for line i of the tree below.
     fn standing(&self, i: usize, line: Line) -> Line
         ensures { result ≡ overlaid_line self.now.failed self.now.sound i line }
     {
         if has(self.failed, i) {
-            Line::Gate(Gate {
-                children: 0,
-                need: 0,
-            })
+            Line::Gate(Gate::ALWAYS)
         } else if has(self.sound, i) {
-            Line::Gate(Gate {
-                children: 0,
-                need: 1,
-            })
+            Line::Gate(Gate::NEVER)
         } else {
             line
         }
-    }
-
-    // Line i here, from line i below.
-    fn laid_over(&self, i: usize, below: Option<Line>) -> Option<Line>
-        requires { below ≡ line_at (T.Tree.meaning self.now.inner) i }
-        ensures { result ≡ line_at (fixed_over T.Tree.meaning self.now) i }
-    {
-        Some(self.standing(i, below?))
-    }
-
-    fn has_part(&self, line: usize) -> bool
-        ensures { result ≡ is_part (line_at (fixed_over T.Tree.meaning self.now) line) }
-    {
-        match self.line(line) {
-            Some(found) => found.is_part(),
-            None => false,
-        }
-    }
-
-    fn mark_failed(&mut self, line: usize)
-        requires { is_part (line_at (fixed_over T.Tree.meaning self.old) line) ≡ true }
-        ensures means { fixed_over T.Tree.meaning self.new ≡ fixed_rows (fixed_over T.Tree.meaning self.old) line fixed.Failed }
-        ensures holds { (s : ℕ) → holding (fixed_over T.Tree.meaning self.new) s ≡ holding (fixed_over T.Tree.meaning self.old) (in_state fixed.Failed line s) }
-    {
-        self.failed |= alone(line);
-    }
-
-    fn mark_sound(&mut self, line: usize)
-        requires { is_part (line_at (fixed_over T.Tree.meaning self.old) line) ≡ true }
-        ensures means { fixed_over T.Tree.meaning self.new ≡ fixed_rows (fixed_over T.Tree.meaning self.old) line fixed.Sound }
-        ensures holds { (s : ℕ) → holding (fixed_over T.Tree.meaning self.new) s ≡ holding (fixed_over T.Tree.meaning self.old) (in_state fixed.Sound line s) }
-    {
-        self.sound |= alone(line);
     }
 }
 

@@ -8,16 +8,26 @@ mod answers;
 mod lines;
 mod making;
 
+// What a lantern is to be, whether or not there is such a lantern.
+#[derive(Clone, Copy, PartialEq, Eq)]
+pub struct Design {
+    pub tiers: u32,
+    // in each tier
+    pub lamps: u32,
+    pub lamp_need: u32,
+    pub tier_need: u32,
+    // what every lamp is
+    pub part: Part,
+}
+
 // Tiers of lamps, all lamps alike: a tier is dark when at least `lamp_need` of its lamps have failed, the lantern when at
 // least `tier_need` of its tiers are dark. Every lantern keeps the limits: no other can be made.
-#[derive(Clone, Copy)]
+#[derive(Clone, Copy, PartialEq, Eq)]
 pub struct Lantern {
     tiers: u8,
-    // in each tier
     lamps: u8,
     lamp_need: u8,
     tier_need: u8,
-    // what every lamp is
     part: Part,
     ghost within: { in_limits tiers lamps lamp_need tier_need part ≡ true },
 }

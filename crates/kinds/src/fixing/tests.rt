@@ -19,34 +19,26 @@ impl Tree for Lamp {
     }
 
     fn line(&self, i: usize) -> Option<Line> {
-        if i > 0 {
-            return None;
-        }
-        Some(Line::Part(Part {
-            rarity: 0,
-            class: 0,
-            discount: 0,
-            price: 0,
-        }))
+        (i == 0).then(|| {
+            Line::Part(Part {
+                rarity: 0,
+                class: 0,
+                discount: 0,
+                price: 0,
+            })
+        })
     }
 
     fn name(&self, i: usize) -> Option<Name> {
-        if i > 0 {
-            return None;
-        }
-        Some(Name {
-            head: 65,
-            tail: 0,
-            len: 1,
-        })
+        (i == 0).then(Name::default)
     }
 }
 
 // What line 0 needs, if it is a gate.
 fn need<T: Tree>(tree: &T) -> Option<u8> {
-    match tree.line(0) {
-        Some(Line::Gate(gate)) => Some(gate.need),
-        _ => None,
+    match tree.line(0)? {
+        Line::Gate(gate) => Some(gate.need),
+        Line::Part(_) => None,
     }
 }
 

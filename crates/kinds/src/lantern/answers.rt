@@ -16,10 +16,10 @@ impl Tree for Lantern {
     }
 
     fn line(&self, i: usize) -> Option<Line> {
-        Some(self.row(i)?.line)
+        self.row(i).map(|row| row.line)
     }
 
     fn name(&self, i: usize) -> Option<Name> {
-        Some(self.row(i)?.name)
+        self.row(i).map(|row| row.name)
     }
 }

@@ -10,56 +10,54 @@ use tree::line::{Gate, Line, Name, Row};
 
 impl Lantern {
     // The line number of the top.
+    #[tactic(auto, using(crate::proofs::LanternLaws::lantern_length, crate::proofs::LanternLaws::top_holds))]
     pub fn top(&self) -> usize
         ensures is_top { result ≡ top_line (rows_of self.now) }
         ensures holds_when_enough_tiers_are_dark { (s : ℕ) → holds (rows_of self.now) s result ≡ dark self.now s }
     {
-        self.all_lamps() + self.tiers as usize
+        self.all_lamps() + usize::from(self.tiers)
     }
 
     // How many lines there are.
+    #[tactic(auto, using(crate::specs::LanternLimits::limits, crate::proofs::LanternLaws::lantern_length))]
     pub(crate) fn lines(&self) -> usize
         ensures all { result ≡ length (rows_of self.now) }
         ensures few { result ≤ 64 }
     {
-        self.all_lamps() + 1 + self.tiers as usize
+        self.top() + 1
     }
 
     // How many lamps there are: the first tier's line number.
+    #[tactic(auto, using(crate::specs::LanternLimits::limits))]
     fn all_lamps(&self) -> usize
         ensures value { result ≡ self.now.tiers * self.now.lamps }
         ensures small { result + self.now.tiers < 64 }
-        ensures to_top { result + self.now.tiers ≡ top_line (rows_of self.now) }
-        ensures to_end { result + self.now.tiers + 1 ≡ length (rows_of self.now) }
-        ensures top_holds { (s : ℕ) → holds (rows_of self.now) s (result + self.now.tiers) ≡ dark self.now s }
     {
-        self.tiers as usize * self.lamps as usize
+        usize::from(self.tiers) * usize::from(self.lamps)
     }
 
     // Line i with its name.
+    #[tactic(auto, using(crate::proofs::LanternLaws::lantern_length, crate::proofs::LanternLaws::lantern_nth, crate::proofs::LanternLaws::lantern_past))]
     pub(crate) fn row(&self, i: usize) -> Option<Row>
         ensures { result ≡ slice_get (rows_of self.now) i }
     {
-        if i < self.lines() {
-            Some(self.made_row(i))
-        } else {
-            None
-        }
+        (i < self.lines()).then(|| self.made_row(i))
     }
 
+    #[tactic(auto, using(crate::proofs::LanternLaws::lantern_length, crate::specs::LanternRows::lamp_row, crate::specs::LanternRows::tier_row, crate::specs::LanternRows::last_row))]
     fn made_row(&self, i: usize) -> Row
         requires { i < 64 }
         ensures { result ≡ lantern_row self.now.tiers self.now.lamps self.now.lamp_need self.now.tier_need self.now.part i }
     {
-        let lamps = self.all_lamps();
-        if i < lamps {
+        let first_tier = self.all_lamps();
+        if i < first_tier {
             Row {
                 line: Line::Part(self.part),
                 name: numbered(b'L', i),
             }
-        } else if i < lamps + self.tiers as usize {
+        } else if i < self.top() {
             Row {
-                line: self.tier(i - lamps),
+                line: self.tier(i - first_tier),
                 name: numbered(b'G', i),
             }
         } else {
@@ -82,12 +80,13 @@ impl Lantern {
     }
 
     // The line number of tier a's first lamp.
+    #[tactic(auto, using(crate::specs::LanternLimits::limits, crate::specs::LanternLimits::tier_fits))]
     fn first_lamp(&self, a: usize) -> usize
         requires { a < self.now.tiers }
         ensures value { result ≡ a * self.now.lamps }
         ensures small { result + self.now.lamps < 64 }
     {
-        a * self.lamps as usize
+        a * usize::from(self.lamps)
     }
 
     // The top: a gate over the tiers.
@@ -102,6 +101,7 @@ impl Lantern {
 }
 
 // The set of the count lines from line first on.
+#[tactic(auto, using(crate::proofs::LanternLaws::shifted))]
 fn run(first: usize, count: u8) -> u64
     requires { first + count < 64 }
     ensures { result ≡ run first count }
@@ -114,10 +114,10 @@ fn numbered(letter: u8, i: usize) -> Name
     requires { i < 64 }
     ensures { result ≡ numbered letter i }
 {
-    let tens = 48 + i as u64 / 10;
-    let units = 48 + i as u64 % 10;
+    let tens = b'0' + i as u8 / 10;
+    let units = b'0' + i as u8 % 10;
     Name {
-        head: letter as u64 + 256 * tens + 65536 * units,
+        head: u64::from_le_bytes([letter, tens, units, 0, 0, 0, 0, 0]),
         tail: 0,
         len: 3,
     }

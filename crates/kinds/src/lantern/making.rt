@@ -1,5 +1,5 @@
 // Which lanterns there are.
-ghost use Rattle.std.specs.Prelude.{◌≡◌, ◌+◌, ◌*◌, true, ◌&&◌, nat_le};
+ghost use Rattle.std.specs.Prelude.{◌≡◌, ◌+◌, ◌*◌, nat_le};
 ghost use Rattle.std.specs.Result.{result_map_both};
 ghost use Rattle.tree.specs.Rules.{part_ok};
 ghost use Rattle.kinds.specs.Faults.{told};
@@ -7,7 +7,7 @@ ghost use Rattle.kinds.specs.Lanterns.{need_ok, in_limits};
 ghost use Rattle.kinds.specs.LanternTrees.{values_of, asked_lantern};
 
 use crate::faults::{LanternCause, TreeFault, TreeLayer};
-use crate::lantern::Lantern;
+use crate::lantern::{Design, Lantern};
 use tree::line::Part;
 
 impl Lantern {
@@ -22,64 +22,61 @@ impl Lantern {
     ) -> Result<Lantern, TreeFault>
         ensures made_within_limits_only { result_map_both values_of told result ≡ asked_lantern tiers lamps lamp_need tier_need part }
     {
-        if within_limits(tiers, lamps, lamp_need, tier_need, part) {
-            Ok(made(tiers, lamps, lamp_need, tier_need, part))
-        } else {
-            Err(TreeFault {
-                line: 0,
-                field: 0,
-                layer: TreeLayer::Lantern(LanternCause::OutOfLimits),
-            })
+        Lantern::try_from(Design {
+            tiers,
+            lamps,
+            lamp_need,
+            tier_need,
+            part,
+        })
+    }
+}
+
+impl TryFrom<Design> for Lantern {
+    type Error = TreeFault;
+
+    ghost try_from_gives = { λ d made. result_map_both values_of told made ≡ asked_lantern d.tiers d.lamps d.lamp_need d.tier_need d.part };
+
+    #[tactic(auto, using(crate::specs::LanternLimits::limits))]
+    fn try_from(design: Design) -> Result<Lantern, TreeFault> {
+        if !design.keeps_limits() {
+            return Err(TreeLayer::Lantern(LanternCause::OutOfLimits).into());
         }
+        Ok(Lantern {
+            tiers: design.tiers as u8,
+            lamps: design.lamps as u8,
+            lamp_need: design.lamp_need as u8,
+            tier_need: design.tier_need as u8,
+            part: design.part,
+        })
     }
 }
 
-// The lantern of these values.
-fn made(tiers: u32, lamps: u32, lamp_need: u32, tier_need: u32, part: Part) -> Lantern
-    requires { in_limits tiers lamps lamp_need tier_need part ≡ true }
-    ensures { values_of result ≡ (tiers, lamps, lamp_need, tier_need, part) }
-{
-    Lantern {
-        tiers: tiers as u8,
-        lamps: lamps as u8,
-        lamp_need: lamp_need as u8,
-        tier_need: tier_need as u8,
-        part,
+impl Design {
+    #[tactic(auto, unfolding(crate::specs::Lanterns::in_limits))]
+    fn keeps_limits(self) -> bool
+        ensures { result ≡ in_limits self.tiers self.lamps self.lamp_need self.tier_need self.part }
+    {
+        need_ok(self.lamp_need, self.lamps)
+            && need_ok(self.tier_need, self.tiers)
+            && self.has_few_lines()
+            && part_ok(self.part)
+    }
+
+    // At most 64 lines: fewer below the top.
+    fn has_few_lines(self) -> bool
+        ensures { result ≡ nat_le (self.tiers * self.lamps + self.tiers + 1) 64 }
+    {
+        let tiers = u64::from(self.tiers);
+        tiers * u64::from(self.lamps) + tiers < 64
     }
 }
 
-fn within_limits(tiers: u32, lamps: u32, lamp_need: u32, tier_need: u32, part: Part) -> bool
-    ensures { result ≡ in_limits tiers lamps lamp_need tier_need part }
-{
-    needs_ok(tiers, lamps, lamp_need, tier_need) && rest_ok(tiers, lamps, part)
-}
-
-// Each need is 1 to what there is, which is at most 12.
-fn needs_ok(tiers: u32, lamps: u32, lamp_need: u32, tier_need: u32) -> bool
-    ensures { result ≡ (need_ok lamp_need lamps && need_ok tier_need tiers) }
-{
-    need_ok(lamp_need, lamps) && need_ok(tier_need, tiers)
-}
-
-// At most 64 lines, and a part within its limits.
-fn rest_ok(tiers: u32, lamps: u32, part: Part) -> bool
-    ensures { result ≡ (nat_le (tiers * lamps + tiers + 1) 64 && part_ok part) }
-{
-    few_lines(tiers, lamps) && part_ok(part)
-}
-
+// A need is 1 to what there is, which is at most 12.
 fn need_ok(need: u32, count: u32) -> bool
     ensures { result ≡ need_ok need count }
 {
-    1 <= need && need <= count && count <= 12
-}
-
-// At most 64 lines: fewer below the top.
-fn few_lines(tiers: u32, lamps: u32) -> bool
-    ensures { result ≡ nat_le (tiers * lamps + tiers + 1) 64 }
-{
-    let lit = u64::from(tiers) * u64::from(lamps);
-    lit + u64::from(tiers) < 64
+    (1..=count).contains(&need) && count <= 12
 }
 
 fn part_ok(part: Part) -> bool
