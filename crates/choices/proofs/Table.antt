@@ -1,8 +1,8 @@
 -- A table that passes the test of Pascal's rule has the numbers of choices.
-use Rattle.std.proofs.Common.{◌≡◌, ℕ, zero, suc, ◌+◌, ◌<◌, ◌≤◌, Bool, true, false, cond, ◌&&◌, eqb, leb, ◌⊎◌, List, Some, None, Option, sym, refl, ap, ◌∙◌, subst, ap₂, inl, inr, ⊎_elim, add-one, arith}
-use Rattle.std.proofs.lemmas.Bool.{and_parts, and_cases, eqb-true, leb-true, leb-false, cases_eq, cases_Bool, cond-true, cond-false}
-use Rattle.choices.specs.Counts.{binom, entry, Pascal, every, keeps_pascal, NumberOfChoices}
-use Rattle.choices.proofs.Choosing.{number}
+use Rattle.std.proofs.Common.{◌≡◌, ℕ, zero, suc, ◌+◌, ◌<◌, ◌≤◌, Bool, true, ◌&&◌, eqb, List, sym, refl, ap, ◌∙◌, ap₂, ⊎_elim, add-one, arith}
+use Rattle.std.proofs.lemmas.Bool.{and_parts, eqb-true, cases_eq}
+use Rattle.choices.specs.declared.TheConstants.{COUNTS}
+use Rattle.choices.specs.Counts.{binom, entry, Pascal, every, keeps_pascal}
 
 every_at : (n : ℕ) (p : ℕ → Bool) → every n p ≡ true → (k : ℕ) → k < n → p k ≡ true
 every_at zero p h k l = absurd (omega arith)
@@ -10,7 +10,7 @@ every_at (suc n) p h k l =
     let (here, rest) = and_parts (p n) (every n p) h in
     ⊎_elim (λ e. rw e here) (λ ne. every_at n p rest k (omega arith)) (cases_eq k n)
 
-pub table_keeps : (t : List ℕ) → keeps_pascal t ≡ true → Pascal t
+pub table_keeps : (t : List (List ℕ)) → keeps_pascal t ≡ true → Pascal t
 table_keeps t h =
     let column = every 13 (λ m. eqb (entry t m 0) 1) in
     let row = every 12 (λ q. eqb (entry t 0 (q + 1)) 0) in
@@ -25,7 +25,7 @@ table_keeps t h =
           (every_at 12 (λ m. every 12 (λ q. eqb (entry t (m + 1) (q + 1)) (entry t m q + entry t m (q + 1)))) inner m lm) q lq);
     }
 
-pub table_counts : (t : List ℕ) → Pascal t → (m q : ℕ) → m ≤ 12 → q ≤ 12 → entry t m q ≡ binom m q
+pub table_counts : (t : List (List ℕ)) → Pascal t → (m q : ℕ) → m ≤ 12 → q ≤ 12 → entry t m q ≡ binom m q
 unfolding binom
 table_counts t p m zero lm lq = p.first_column m lm
 table_counts t p zero (suc q) lm lq = ap (entry t 0) (sym (add-one q)) ∙ p.first_row q (omega arith)
@@ -42,32 +42,5 @@ no_choice (suc m) (suc q) h = omega (arith, no_choice m q (omega arith), no_choi
 
 -- ---- what is read from the table
 
--- the test that the table has row m and column q
-stands : ℕ → ℕ → Bool
-stands m q = leb m 12 && leb q 12
-
-none_some : {A : Type 0} {x : A} → ◌≡◌ {A = Option A} (Some x) None → ⊥
-none_some e = let z : ◌≡◌ {A = ℕ} 0 1 = cc in omega arith
-
-pub some_count : (t : List ℕ) → Pascal t → (m q k : ℕ) → Some k ≡ cond (leb m 12 && leb q 12) (Some (entry t m q)) None
-    → (Some k ≡ cond (leb m 12 && leb q 12) (Some (binom m q)) None) × NumberOfChoices m q k
-unfolding stands
-some_count t p m q k e = go (cases_Bool (stands m q))
-  where
-    go : (stands m q ≡ true) ⊎ (stands m q ≡ false) → (Some k ≡ cond (stands m q) (Some (binom m q)) None) × NumberOfChoices m q k
-    go (inl h) =
-        let (lm, lq) = and_parts (leb m 12) (leb q 12) h in
-        let read : Some k ≡ Some (entry t m q) = e ∙ cond-true _ _ _ h in
-        let k-is : k ≡ entry t m q = cc in
-        let is = k-is ∙ table_counts t p m q (leb-true m 12 lm) (leb-true q 12 lq) in
-        (ap Some is ∙ sym (cond-true _ _ _ h), subst (NumberOfChoices m q) (sym is) (number m q))
-    go (inr h) = absurd (none_some (e ∙ cond-false _ _ _ h))
-
-pub none_count : (m q x : ℕ) → ◌≡◌ {A = Option ℕ} None (cond (leb m 12 && leb q 12) (Some x) None)
-    → (None ≡ cond (leb m 12 && leb q 12) (Some (binom m q)) None) × ((12 < m) ⊎ (12 < q))
-unfolding stands
-none_count m q x e = go (cases_Bool (stands m q))
-  where
-    go : (stands m q ≡ true) ⊎ (stands m q ≡ false) → (None ≡ cond (stands m q) (Some (binom m q)) None) × ((12 < m) ⊎ (12 < q))
-    go (inl h) = absurd (none_some (sym (e ∙ cond-true _ _ _ h)))
-    go (inr h) = (sym (cond-false _ _ _ h), ⊎_elim (λ l. inl (leb-false m 12 l)) (λ l. inr (leb-false q 12 l)) (and_cases (leb m 12) (leb q 12) h))
+pub entry_is : (m q : ℕ) → keeps_pascal COUNTS ≡ true → m ≤ 12 → q ≤ 12 → entry COUNTS m q ≡ binom m q
+entry_is m q h = table_counts COUNTS (table_keeps COUNTS h) m q

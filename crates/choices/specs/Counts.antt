@@ -1,5 +1,5 @@
 -- How many sets of exactly q of m lines there are: by Pascal's rule, by the table of the rule, and by listing the sets.
-use Rattle.std.specs.Prelude.{◌≡◌, ℕ, zero, suc, ◌+◌, ◌*◌, ◌^◌, ◌<◌, ◌≤◌, Bool, true, cond, ◌&&◌, ◌↔◌, List, [], ◌∷◌, ◌++◌, map, length, bit_or, count_ones, nat_eq, slice_index}
+use Rattle.std.specs.Prelude.{◌≡◌, ℕ, zero, suc, ◌+◌, ◌^◌, ◌<◌, ◌≤◌, Bool, true, cond, ◌&&◌, ◌↔◌, List, [], ◌∷◌, ◌++◌, map, length, bit_or, count_ones, nat_eq, slice_index, slice_index_or}
 use Rattle.tree.specs.Sets.{has, ◌⊆◌, Below}
 use Rattle.orders.specs.Lists.{In, Rising}
 
@@ -11,12 +11,12 @@ binom (suc m) (suc q) = binom m q + binom m (suc q)
 
 -- ---- the table
 
--- row m, column q of a table with 13 columns
-abbrev pub entry : List ℕ → ℕ → ℕ → ℕ
-entry t m q = slice_index t (m * 13 + q)
+-- row m, column q of a table
+abbrev pub entry : List (List ℕ) → ℕ → ℕ → ℕ
+entry t m q = slice_index (slice_index_or t m []) q
 
 -- Pascal's rule at all of the 13 rows of a table
-pub record Pascal (t : List ℕ) : Type 0 where
+pub record Pascal (t : List (List ℕ)) : Type 0 where
   pub first_column : (m : ℕ) → m ≤ 12 → entry t m 0 ≡ 1
   pub first_row : (q : ℕ) → q < 12 → entry t 0 (q + 1) ≡ 0
   pub sums : (m q : ℕ) → m < 12 → q < 12 → entry t (m + 1) (q + 1) ≡ entry t m q + entry t m (q + 1)
@@ -27,7 +27,7 @@ every zero p = true
 every (suc n) p = p n && every n p
 
 -- the test of Pascal's rule
-abbrev pub keeps_pascal : List ℕ → Bool
+abbrev pub keeps_pascal : List (List ℕ) → Bool
 keeps_pascal t =
     every 13 (λ m. nat_eq (entry t m 0) 1) && every 12 (λ q. nat_eq (entry t 0 (q + 1)) 0)
     && every 12 (λ m. every 12 (λ q. nat_eq (entry t (m + 1) (q + 1)) (entry t m q + entry t m (q + 1))))
