@@ -4,8 +4,9 @@
 // which are shown whole, with `.` for those that stay.
 #![tactic(auto)]
 
-use page::answer::{INPUT_BYTES, PAGE_BYTES, answer};
+use page::answer::{INPUT_BYTES, PAGE_BYTES, Written, answer};
 use std::alloc::{AllocError, Global};
+use std::iter;
 
 fn decoded_byte(b: u8) -> u8 {
     match b {
@@ -19,35 +20,25 @@ fn decoded_byte(b: u8) -> u8 {
 }
 
 fn decoded(heap: Global, case: &[u8]) -> Result<Vec<u8>, AllocError> {
-    let mut input = Vec::new(heap);
-    for b in case {
-        input.push(decoded_byte(*b))?;
-    }
-    Ok(input)
+    case.iter().map(|b| decoded_byte(*b)).collect(heap)
 }
 
 fn shown_byte(b: u8) -> char {
     match b {
         b'\t' => '>',
         b'\n' => '/',
-        _ => b as char,
+        _ => char::from(b),
     }
 }
 
 fn shown(heap: Global, bytes: &[u8]) -> Result<String, AllocError> {
-    let mut text = String::new(heap);
-    for b in bytes {
-        text.push(shown_byte(*b))?;
-    }
-    Ok(text)
+    bytes.iter().map(|b| shown_byte(*b)).collect(heap)
 }
 
 // A right order line, and that many letters after it.
 fn letters(heap: Global, count: usize) -> Result<Vec<u8>, AllocError> {
     let mut input = decoded(heap, b"1>30>C>10/")?;
-    for _ in 0..count {
-        input.push(b'A')?;
-    }
+    input.extend(iter::repeat_n(b'A', count))?;
     Ok(input)
 }
 
@@ -55,38 +46,32 @@ fn letters(heap: Global, count: usize) -> Result<Vec<u8>, AllocError> {
 fn answered(heap: Global, input: &[u8]) -> Result<String, AllocError> {
     let mut page = vec![in heap; b'.'; PAGE_BYTES]?;
     let written = answer(input, page.as_mut_slice());
-    let end = written.len.min(page.len());
+    let end = written.len().min(page.len());
     shown(heap, &page[0..end])
-}
-
-fn number(digits: &str) -> anyhow::Result<usize> {
-    Ok(digits.parse::<usize>()?)
 }
 
 // All the page bytes after the input, where only some are handed over, and how many were written.
 fn cramped(heap: Global, input: &[u8], bytes: usize) -> Result<String, AllocError> {
     let mut page = vec![in heap; b'.'; bytes]?;
     let written = answer(input, page.as_mut_slice());
-    let len = written.len;
-    let left = shown(heap, page.as_slice())?;
-    let state = if written.refused {
-        "refused"
-    } else {
-        "written"
+    let (state, len) = match written {
+        Written::Sheet(len) => ("written", len),
+        Written::Refusal(len) => ("refused", len),
     };
+    let left = shown(heap, page.as_slice())?;
     format!(in heap; "{state} {len} [{left}]")
 }
 
 fn case(heap: Global, text: &str) -> anyhow::Result<String> {
     if let Some(digits) = text.strip_prefix("#") {
-        let input = letters(heap, number(digits)?)?;
+        let input = letters(heap, digits.parse::<usize>()?)?;
         return Ok(answered(heap, input.as_slice())?);
     }
-    if let Some(rest) = text.strip_prefix("!") {
-        if let Some((digits, encoded)) = rest.split_once(" ") {
-            let input = decoded(heap, encoded.as_bytes())?;
-            return Ok(cramped(heap, input.as_slice(), number(digits)?)?);
-        }
+    if let Some(rest) = text.strip_prefix("!")
+        && let Some((digits, encoded)) = rest.split_once(" ")
+    {
+        let input = decoded(heap, encoded.as_bytes())?;
+        return Ok(cramped(heap, input.as_slice(), digits.parse::<usize>()?)?);
     }
     let input = decoded(heap, text.as_bytes())?;
     Ok(answered(heap, input.as_slice())?)

@@ -1,7 +1,6 @@
 // Goes through the library on a lantern, on fixings of it and on a read station, and prints each call with its answer.
 #![tactic(auto)]
 
-mod shown;
 mod trees;
 mod weights;
 

@@ -1,14 +1,12 @@
 // Kinds of station tree.
-use crate::shown::{line_text, name_text};
-use anyhow::anyhow;
-use kinds::faults::{TreeFault, TreeLayer};
 use kinds::fixing::{Fixing, State};
-use kinds::lantern::Lantern;
+use kinds::lantern::{Design, Lantern};
 use station_file::read_tree::ReadTree;
 use station_file::reader::read;
 use std::io;
 use tree::line::Part;
 use tree::station_tree::Tree;
+use tree_text::{LineText, NameText};
 
 pub const LAMP: Part = Part {
     rarity: 2000,
@@ -20,26 +18,24 @@ pub const LAMP: Part = Part {
 const STATION: &[u8] =
     b"LAMP-1\tE\t2000\t3\t100\t12500\nLAMP-2\tE\t2000\t3\t0\t9000\nMAINS\tE\t1200\t1\t0\t0\nDARK\tV\t2\tLAMP-1\tLAMP-2\tMAINS\n";
 
-// The number and the layer of a refusal.
-fn refusal(fault: TreeFault) -> &'static str {
-    match fault.layer {
-        TreeLayer::Fixing(_) => "refused 14, layer X",
-        TreeLayer::Lantern(_) => "refused 16, layer T",
-    }
-}
+const THREE_LAMPS: Design = Design {
+    tiers: 1,
+    lamps: 3,
+    lamp_need: 2,
+    tier_need: 1,
+    part: LAMP,
+};
 
 // Asks a tree for every line, and for one past the last.
-fn tell<T: Tree>(rt: &HostRuntime, tree: &T) -> anyhow::Result<()> {
+fn tell<T: Tree>(rt: &HostRuntime, tree: &T) -> io::Result<()> {
     let count = tree.count();
     println!(rt; "  count: {count}")?;
-    for i in 0..count.saturating_add(1) {
-        let line = line_text(rt.alloc(), tree.line(i))?;
-        match tree.name(i) {
-            Some(name) => {
-                let text = name_text(rt.alloc(), name)?;
-                println!(rt; "  line {i}: {text}, {line}")?;
+    for i in 0..=count {
+        match (tree.name(i), tree.line(i)) {
+            (Some(name), Some(line)) => {
+                println!(rt; "  line {i}: {}, {}", NameText(name), LineText(line))?
             }
-            None => println!(rt; "  line {i}: {line}")?,
+            _ => println!(rt; "  line {i}: none")?,
         }
     }
     Ok(())
@@ -51,43 +47,33 @@ fn fixed<T: Tree>(
     line: usize,
     state: State,
 ) -> io::Result<()> {
-    let word = match state {
-        State::Failed => "failed",
-        State::Sound => "sound",
-    };
     match tree.fix(line, state) {
-        Ok(()) => println!(rt; "fix line {line} as {word}: done"),
-        Err(fault) => {
-            let why = refusal(fault);
-            println!(rt; "fix line {line} as {word}: {why}")
-        }
+        Ok(()) => println!(rt; "fix line {line} as {state}: done"),
+        Err(fault) => println!(rt; "fix line {line} as {state}: {fault}"),
     }
 }
 
 fn lit(rt: &HostRuntime, tiers: u32, lamps: u32, lamp_need: u32) -> io::Result<()> {
-    let made = match Lantern::new(tiers, lamps, lamp_need, 1, LAMP) {
-        Ok(_) => "made",
-        Err(fault) => refusal(fault),
-    };
-    println!(rt; "lantern of {tiers} tiers of {lamps} lamps, needs {lamp_need}: {made}")
+    print!(rt; "lantern of {tiers} tiers of {lamps} lamps, needs {lamp_need}: ")?;
+    match Lantern::new(tiers, lamps, lamp_need, 1, LAMP) {
+        Ok(_) => println!(rt; "made"),
+        Err(fault) => println!(rt; "{fault}"),
+    }
 }
 
 pub fn light_lantern(rt: &HostRuntime) -> anyhow::Result<()> {
     lit(rt, 7, 8, 1)?;
     lit(rt, 8, 7, 1)?;
     lit(rt, 1, 2, 3)?;
-    let Ok(lantern) = Lantern::new(2, 3, 2, 1, LAMP) else {
-        return Err(anyhow!("the lantern is within its limits"));
-    };
+    let lantern = Lantern::new(2, 3, 2, 1, LAMP)?;
     let top = lantern.top();
     println!(rt; "lantern of 2 tiers of 3 lamps, needs 2 lamps and 1 tier: made, top {top}")?;
-    tell(rt, &lantern)
+    tell(rt, &lantern)?;
+    Ok(())
 }
 
 pub fn fix_lamps(rt: &HostRuntime) -> anyhow::Result<()> {
-    let Ok(lantern) = Lantern::new(1, 3, 2, 1, LAMP) else {
-        return Err(anyhow!("the lantern is within its limits"));
-    };
+    let lantern = Lantern::try_from(THREE_LAMPS)?;
     println!(rt; "fixing over a lantern of 1 tier of 3 lamps")?;
     let mut ashore = Fixing::new(&lantern);
     fixed(rt, &mut ashore, 0, State::Failed)?;
@@ -99,10 +85,11 @@ pub fn fix_lamps(rt: &HostRuntime) -> anyhow::Result<()> {
     let mut spared = Fixing::new(ashore);
     fixed(rt, &mut spared, 0, State::Failed)?;
     fixed(rt, &mut spared, 1, State::Sound)?;
-    tell(rt, &spared)
+    tell(rt, &spared)?;
+    Ok(())
 }
 
-pub fn read_station(rt: &HostRuntime) -> anyhow::Result<()> {
+pub fn read_station(rt: &HostRuntime) -> io::Result<()> {
     let mut tree = ReadTree::new();
     println!(rt; "a read tree before any file")?;
     tell(rt, &tree)?;

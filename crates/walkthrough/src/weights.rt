@@ -1,5 +1,4 @@
 // Charges, rankings, the order of sets and the counts of choices.
-use crate::shown::set_text;
 use crate::trees::LAMP;
 use choices::count;
 use ranking::charge::charge;
@@ -12,6 +11,7 @@ use ranking::weight::add_part;
 use std::io;
 use tree::line::Part;
 use tree::line_set::{alone, highest, is_within, size, union};
+use tree_text::SetText;
 
 fn charge_in(rt: &HostRuntime, year: u32, growth: u32) -> io::Result<()> {
     match Terms::new(year, growth) {
@@ -47,14 +47,19 @@ const CHEAP: Part = Part {
 };
 
 // Line 0 and line 2 are dear, line 1 and line 3 are cheap.
-fn weighed<R: Ranking>(a: usize, b: usize) -> Weighed<R::Weight> {
-    let first = if a % 2 == 0 { DEAR } else { CHEAP };
-    let second = if b % 2 == 0 { DEAR } else { CHEAP };
-    let one = add_part::<R>(R::zero(), first, first.price as u64);
-    let weight = add_part::<R>(one, second, second.price as u64);
+fn part_at(line: usize) -> Part {
+    if line % 2 == 0 { DEAR } else { CHEAP }
+}
+
+fn with_line<R: Ranking>(weight: R::Weight, line: usize) -> R::Weight {
+    let part = part_at(line);
+    add_part::<R>(weight, part, u64::from(part.price))
+}
+
+fn weighed<R: Ranking>((a, b): (usize, usize)) -> Weighed<R::Weight> {
     Weighed {
         set: union(alone(a), alone(b)),
-        weight,
+        weight: with_line::<R>(with_line::<R>(R::zero(), a), b),
     }
 }
 
@@ -63,21 +68,20 @@ fn compared<R: Ranking>(
     letter: char,
     a: (usize, usize),
     b: (usize, usize),
-) -> anyhow::Result<()> {
-    let left = weighed::<R>(a.0, a.1);
-    let right = weighed::<R>(b.0, b.1);
-    let x = set_text(rt.alloc(), left.set)?;
-    let y = set_text(rt.alloc(), right.set)?;
+) -> io::Result<()> {
+    let left = weighed::<R>(a);
+    let right = weighed::<R>(b);
+    let x = SetText(left.set);
+    let y = SetText(right.set);
     let first = if at_most::<R>(left, right) {
         "first"
     } else {
         "second"
     };
-    println!(rt; "{x} and {y} by {letter}: the {first} comes first")?;
-    Ok(())
+    println!(rt; "{x} and {y} by {letter}: the {first} comes first")
 }
 
-pub fn compare_sets(rt: &HostRuntime) -> anyhow::Result<()> {
+pub fn compare_sets(rt: &HostRuntime) -> io::Result<()> {
     compared::<ByPrice>(rt, 'P', (0, 2), (1, 3))?;
     compared::<ByRarity>(rt, 'R', (0, 2), (1, 3))?;
     compared::<ByClass>(rt, 'C', (0, 2), (1, 3))?;
@@ -85,7 +89,7 @@ pub fn compare_sets(rt: &HostRuntime) -> anyhow::Result<()> {
     compared::<ByPrice>(rt, 'P', (0, 1), (0, 3))?;
     compared::<ByPrice>(rt, 'P', (2, 3), (0, 1))?;
     let pair = union(alone(1), alone(3));
-    let text = set_text(rt.alloc(), pair)?;
+    let text = SetText(pair);
     let lines = size(pair);
     println!(rt; "size of {text}: {lines}")?;
     match highest(pair) {
@@ -93,8 +97,7 @@ pub fn compare_sets(rt: &HostRuntime) -> anyhow::Result<()> {
         None => println!(rt; "highest line of {text}: none")?,
     }
     let inside = is_within(alone(3), pair);
-    println!(rt; "{text} has line 3: {inside}")?;
-    Ok(())
+    println!(rt; "{text} has line 3: {inside}")
 }
 
 fn count_of(rt: &HostRuntime, m: usize, q: usize) -> io::Result<()> {

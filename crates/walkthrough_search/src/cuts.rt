@@ -1,14 +1,14 @@
 // Cut sets of a lantern and of a fixing of it.
-use crate::shown::set_text;
-use anyhow::anyhow;
 use cut_sets::cut::{is_minimal, lines_holding};
 use cut_sets::search::first_way;
 use kinds::fixing::{Fixing, State};
 use kinds::lantern::Lantern;
 use ranking::kinds::*;
 use ranking::pairs::*;
+use std::io;
 use tree::line::Part;
 use tree::station_tree::Tree;
+use tree_text::SetText;
 
 const LAMP: Part = Part {
     rarity: 2000,
@@ -17,26 +17,22 @@ const LAMP: Part = Part {
     price: 12500,
 };
 
-fn told<T: Tree>(rt: &HostRuntime, tree: &T, failed: u64) -> anyhow::Result<()> {
-    let set = set_text(rt.alloc(), failed)?;
-    let held = set_text(rt.alloc(), lines_holding(tree, failed))?;
+fn told<T: Tree>(rt: &HostRuntime, tree: &T, failed: u64) -> io::Result<()> {
+    let set = SetText(failed);
+    let held = SetText(lines_holding(tree, failed));
     let minimal = is_minimal(tree, failed);
-    println!(rt; "  {set} failed: {held} hold, minimal cut set: {minimal}")?;
-    Ok(())
+    println!(rt; "  {set} failed: {held} hold, minimal cut set: {minimal}")
 }
 
-fn begun<T: Tree>(rt: &HostRuntime, tree: &T) -> anyhow::Result<()> {
+fn begun<T: Tree>(rt: &HostRuntime, tree: &T) -> io::Result<()> {
     let way = first_way::<T, ByPrice>(tree);
-    let chosen = set_text(rt.alloc(), way.chosen)?;
-    let gates = set_text(rt.alloc(), way.gates)?;
-    println!(rt; "  the first way: chosen {chosen}, open {gates}")?;
-    Ok(())
+    let chosen = SetText(way.chosen);
+    let gates = SetText(way.gates);
+    println!(rt; "  the first way: chosen {chosen}, open {gates}")
 }
 
 pub fn cut_lantern(rt: &HostRuntime) -> anyhow::Result<()> {
-    let Ok(lantern) = Lantern::new(1, 3, 2, 1, LAMP) else {
-        return Err(anyhow!("the lantern is within its limits"));
-    };
+    let lantern = Lantern::new(1, 3, 2, 1, LAMP)?;
     println!(rt; "cut sets of a lantern of 1 tier of 3 lamps, needs 2")?;
     begun(rt, &lantern)?;
     told(rt, &lantern, 0b001)?;
@@ -50,5 +46,6 @@ pub fn cut_lantern(rt: &HostRuntime) -> anyhow::Result<()> {
     }
     told(rt, &ashore, 0b010)?;
     told(rt, &ashore, 0b011)?;
-    told(rt, &ashore, 0b110)
+    told(rt, &ashore, 0b110)?;
+    Ok(())
 }

@@ -3,7 +3,6 @@
 
 mod cuts;
 mod heaps;
-mod shown;
 
 use crate::cuts::cut_lantern;
 use crate::heaps::{push_and_pop, sort_numbers};
