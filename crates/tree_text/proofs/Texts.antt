@@ -1,13 +1,10 @@
 -- The numbers of one line more, and what was written whole is what is read back.
-use Rattle.std.proofs.Common.{◌≡◌, ℕ, ◌+◌, ◌-◌, ◌^◌, ◌<◌, ◌≤◌, cond, List, [], ◌++◌, refl, add-one, length, take, drop, ap, ◌∙◌, arith}
+use Rattle.std.proofs.Common.{◌≡◌, ℕ, ◌+◌, ◌-◌, ◌^◌, ◌<◌, ◌≤◌, cond, List, [], ◌++◌, refl, add-one, length, ap, ◌∙◌, arith}
 use Rattle.std.specs.Prelude.{codes}
 use Rattle.std.specs.Fmt.{decimal}
 use Rattle.std.specs.List.{slice_range}
 use Rattle.std.proofs.lemmas.List.{take_at}
-use Rattle.tree.specs.declared.line.Name.{Name}
-use Rattle.tree.specs.Names.{spelled}
-use Rattle.tabbed_text.specs.declared.writer.Writer.{Writer}
-use Rattle.tabbed_text.specs.Writing.{placed, moved, Put, Writes}
+use Rattle.tabbed_text.specs.Writing.{Put}
 use Rattle.tree.specs.Sets.{has}
 use Rattle.tree_text.specs.Texts.{numbers_text}
 use Rattle.tabbed_text.proofs.Placing.{length_placed, placed_all}

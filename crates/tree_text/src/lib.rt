@@ -7,7 +7,7 @@ ghost use Rattle.tree_text.specs.Texts.{set_text, line_text};
 
 use std::fmt;
 use tabbed_text::writer::Writer;
-use tree::line::{Line, Name};
+use tree::line::{Gate, Line, Name, Part};
 use tree::line_set::has;
 
 // The numbers of the lines of a set.
@@ -26,6 +26,7 @@ impl fmt::Display for SetText {
     #[tactic(auto, using(crate::proofs::Texts::no_numbers, crate::proofs::Texts::more_numbers, std::proofs::lemmas::Grind::common_steps))]
     fn fmt<W: fmt::Write>(&self, f: &mut fmt::Formatter<W>) -> fmt::Result {
         write!(f, "{{")?;
+        // A test in the loop: a `for` over a filtered range gets no proof in a function over any writer.
         for i in 0..64 {
             if has(self.0, i) {
                 write!(f, " {i}")?;
@@ -40,20 +41,19 @@ impl fmt::Display for LineText {
 
     fn fmt<W: fmt::Write>(&self, f: &mut fmt::Formatter<W>) -> fmt::Result {
         match self.0 {
-            Line::Part(part) => {
-                let rarity = part.rarity;
-                let class = part.class;
-                let discount = part.discount;
-                let price = part.price;
-                write!(
-                    f,
-                    "part, rarity {rarity} class {class} discount {discount} price {price}"
-                )
-            }
-            Line::Gate(gate) => {
-                let need = gate.need;
-                let children = SetText(gate.children);
-                write!(f, "gate, {need} of {children}")
+            Line::Part(
+                Part {
+                    rarity,
+                    class,
+                    discount,
+                    price,
+                },
+            ) => write!(
+                f,
+                "part, rarity {rarity} class {class} discount {discount} price {price}"
+            ),
+            Line::Gate(Gate { children, need }) => {
+                write!(f, "gate, {need} of {}", SetText(children))
             }
         }
     }
