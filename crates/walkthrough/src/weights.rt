@@ -24,11 +24,10 @@ fn charge_in(rt: &HostRuntime, year: u32, growth: u32) -> io::Result<()> {
 }
 
 pub fn charge_lamp(rt: &HostRuntime) -> io::Result<()> {
-    charge_in(rt, 0, 30)?;
-    charge_in(rt, 1, 30)?;
-    charge_in(rt, 2, 30)?;
-    charge_in(rt, 11, 30)?;
-    charge_in(rt, 1, 201)
+    for (year, growth) in [(0, 30), (1, 30), (2, 30), (11, 30), (1, 201)] {
+        charge_in(rt, year, growth)?;
+    }
+    Ok(())
 }
 
 // A dear part that is easy to reach, and a cheap one that is not.
@@ -108,9 +107,8 @@ fn count_of(rt: &HostRuntime, m: usize, q: usize) -> io::Result<()> {
 }
 
 pub fn count_choices(rt: &HostRuntime) -> io::Result<()> {
-    count_of(rt, 0, 0)?;
-    count_of(rt, 3, 2)?;
-    count_of(rt, 2, 3)?;
-    count_of(rt, 12, 6)?;
-    count_of(rt, 13, 1)
+    for (m, q) in [(0, 0), (3, 2), (2, 3), (12, 6), (13, 1)] {
+        count_of(rt, m, q)?;
+    }
+    Ok(())
 }

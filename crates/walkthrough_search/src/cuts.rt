@@ -35,17 +35,15 @@ pub fn cut_lantern(rt: &HostRuntime) -> anyhow::Result<()> {
     let lantern = Lantern::new(1, 3, 2, 1, LAMP)?;
     println!(rt; "cut sets of a lantern of 1 tier of 3 lamps, needs 2")?;
     begun(rt, &lantern)?;
-    told(rt, &lantern, 0b001)?;
-    told(rt, &lantern, 0b011)?;
-    told(rt, &lantern, 0b110)?;
-    told(rt, &lantern, 0b111)?;
-    told(rt, &lantern, 0b1011)?;
+    for failed in [0b001, 0b011, 0b110, 0b111, 0b1011] {
+        told(rt, &lantern, failed)?;
+    }
     let mut ashore = Fixing::new(&lantern);
     if ashore.fix(0, State::Failed).is_ok() {
         println!(rt; "with lamp 0 fixed as failed")?;
     }
-    told(rt, &ashore, 0b010)?;
-    told(rt, &ashore, 0b011)?;
-    told(rt, &ashore, 0b110)?;
+    for failed in [0b010, 0b011, 0b110] {
+        told(rt, &ashore, failed)?;
+    }
     Ok(())
 }

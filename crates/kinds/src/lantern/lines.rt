@@ -114,8 +114,9 @@ fn numbered(letter: u8, i: usize) -> Name
     requires { i < 64 }
     ensures { result ≡ numbered letter i }
 {
-    let tens = b'0' + i as u8 / 10;
-    let units = b'0' + i as u8 % 10;
+    let number = i as u8;
+    let tens = b'0' + number / 10;
+    let units = b'0' + number % 10;
     Name {
         head: u64::from_le_bytes([letter, tens, units, 0, 0, 0, 0, 0]),
         tail: 0,
