@@ -1,5 +1,5 @@
 -- One more line fixed: with it in one of the two sets, a tree is as it was but for that line.
-use Rattle.std.proofs.Common.{◌≡◌, ℕ, zero, suc, ◌+◌, ◌^◌, ◌<◌, ◌≤◌, Bool, true, false, cond, ◌||◌, ltb, List, [], ◌∷◌, length, Some, sym, refl, ap, ◌∙◌, subst, ⊎_elim, arith}
+use Rattle.std.proofs.Common.{◌≡◌, ℕ, zero, suc, ◌+◌, ◌^◌, ◌<◌, ◌≤◌, true, false, cond, ltb, List, [], ◌∷◌, length, Some, sym, refl, ap, ◌∙◌, subst, ⊎_elim, arith}
 use lib.Bits.{bit_or}
 use Rattle.std.proofs.lemmas.Bool.{cases_Bool, both_ways, and_parts, leb-true, lt-ltb, ne_eqb, cond-true}
 use Rattle.tree.specs.Lines.{line_at}
@@ -15,15 +15,11 @@ use Rattle.kinds.proofs.Overlaid.{overlaid_length}
 
 -- ---- a set with one line more
 
-or_none : (b : Bool) → (b || false) ≡ b
-or_none true = refl
-or_none false = refl
-
 pub more_same : (w i : ℕ) → has (bit_or w (2 ^ i)) i ≡ true
 more_same w i = in_right w (2 ^ i) i (has_one i)
 
 pub more_other : (w i j : ℕ) → (j ≡ i → ⊥) → has (bit_or w (2 ^ i)) j ≡ has w j
-more_other w i j ne = has_or w (2 ^ i) j ∙ ap (λ b. has w j || b) (has_pow i j ∙ ne_eqb j i ne) ∙ or_none (has w j)
+more_other w i j ne = grind (arith, has_or w (2 ^ i) j, has_pow i j, ne_eqb j i ne)
 
 -- ---- where a part is
 

@@ -18,22 +18,14 @@ use Rattle.kinds.proofs.Fixes.{more_same, more_other, fixed_there}
 
 -- ---- a set with one line less
 
-taken : (b : Bool) → differs b (b && true) ≡ false
-taken true = refl
-taken false = refl
-
-left : (b : Bool) → differs b (b && false) ≡ b
-left true = refl
-left false = refl
-
 less : (s i j : ℕ) → has (in_state Sound i s) j ≡ differs (has s j) (has s j && has (2 ^ i) j)
 less s i j = has_xor s (bit_and s (2 ^ i)) j ∙ ap (differs (has s j)) (has_and s (2 ^ i) j)
 
 less_same : (s i : ℕ) → has (in_state Sound i s) i ≡ false
-less_same s i = less s i i ∙ ap (λ b. differs (has s i) (has s i && b)) (has_one i) ∙ taken (has s i)
+less_same s i = grind (arith, less s i i, has_one i)
 
 less_other : (s i j : ℕ) → (j ≡ i → ⊥) → has (in_state Sound i s) j ≡ has s j
-less_other s i j ne = less s i j ∙ ap (λ b. differs (has s j) (has s j && b)) (has_pow i j ∙ ne_eqb j i ne) ∙ left (has s j)
+less_other s i j ne = grind (arith, less s i j, has_pow i j, ne_eqb j i ne)
 
 -- ---- another line i
 
