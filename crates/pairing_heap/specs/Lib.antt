@@ -1,3 +1,4 @@
+pub mod Index
 pub mod Forests
 pub mod Links
 pub mod Heaps

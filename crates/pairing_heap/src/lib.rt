@@ -4,5 +4,4 @@
 pub mod heap;
 mod linking;
 pub mod node;
-mod passes;
 pub mod sorting;

@@ -42,30 +42,24 @@ fn fill(rt: &HostRuntime, heap: &mut Heap, nodes: &mut [Node<u64>]) -> io::Resul
     requires { Sound nat_le nodes.old heap.old }
     ensures { Sound nat_le nodes.new heap.new }
 {
-    pushed(rt, heap, nodes, 5)?;
-    pushed(rt, heap, nodes, 3)?;
-    pushed(rt, heap, nodes, 9)?;
-    pushed(rt, heap, nodes, 3)?;
-    pushed(rt, heap, nodes, 1)
+    for n in [5, 3, 9, 3, 1] {
+        pushed(rt, heap, nodes, n)?;
+    }
+    Ok(())
 }
 
 fn empty(rt: &HostRuntime, heap: &mut Heap, nodes: &mut [Node<u64>]) -> io::Result<()>
     requires { Sound nat_le nodes.old heap.old }
     ensures { Sound nat_le nodes.new heap.new }
 {
-    popped(rt, heap, nodes)?;
-    popped(rt, heap, nodes)?;
-    popped(rt, heap, nodes)?;
-    popped(rt, heap, nodes)?;
-    popped(rt, heap, nodes)
+    for _ in 0..5 {
+        popped(rt, heap, nodes)?;
+    }
+    Ok(())
 }
 
 pub fn push_and_pop(rt: &HostRuntime) -> anyhow::Result<()> {
-    let mut nodes = [Node {
-        item: 0,
-        child: 0,
-        next: 0,
-    }; 5];
+    let mut nodes = [Node::new(0); 5];
     let mut heap = Heap::begin::<Lesser>(&mut nodes, 4);
     let capacity = heap.capacity();
     println!(rt; "a heap over 5 nodes of which {capacity} count")?;
