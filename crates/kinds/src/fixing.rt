@@ -89,6 +89,7 @@ impl<T: Tree> Fixing<T> {
         Ok(())
     }
 
+    // Takes a part into the set of its state.
     #[tactic(auto, using(crate::proofs::Fixes::after_failed, crate::proofs::Fixes::after_sound, crate::proofs::Held::fixed_holding))]
     fn mark(&mut self, line: usize, state: State)
         requires { is_part (line_at (fixed_over T.Tree.meaning self.old) line) ≡ true }

@@ -47,7 +47,7 @@ fn answered(heap: Global, input: &[u8]) -> Result<String, AllocError> {
     let mut page = vec![in heap; b'.'; PAGE_BYTES]?;
     let written = answer(input, page.as_mut_slice());
     let end = written.len().min(page.len());
-    shown(heap, &page[0..end])
+    shown(heap, &page[..end])
 }
 
 // All the page bytes after the input, where only some are handed over, and how many were written.

@@ -109,7 +109,7 @@ fn run(first: usize, count: u8) -> u64
     ((1 << count) - 1) << first
 }
 
-// A letter and the line number in two digits.
+// A letter and the line number, which a byte holds, in two digits.
 fn numbered(letter: u8, i: usize) -> Name
     requires { i < 64 }
     ensures { result ≡ numbered letter i }
