@@ -29,6 +29,10 @@ pub cond_some : {A : Type 0} (b : Bool) (x a : A) → cond b (Some x) None ≡ S
 cond_some true x a e = (refl, cc)
 cond_some false x a e = let z : ◌≡◌ {A = ℕ} 0 1 = cc in let y : ⊥ = omega arith in absurd y
 
+pub cond_none : {A : Type 0} (b : Bool) (x : A) → cond b (Some x) None ≡ None → b ≡ false
+cond_none true x e = cc
+cond_none false x e = refl
+
 -- a question whose no is asked for first, and one whose yes is
 pub not_refused : {A E : Type 0} (b : Bool) (x : E) (k : Result A E) (a : A) → cond b (Err x) k ≡ Ok a → (b ≡ false) × (k ≡ Ok a)
 not_refused true x k a e = refused x a ((true ≡ false) × (k ≡ Ok a)) e

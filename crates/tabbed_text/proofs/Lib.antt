@@ -5,3 +5,4 @@ pub mod Splitting
 pub mod Walking
 pub mod NextLines
 pub mod Placing
+pub mod Words

@@ -1,7 +1,8 @@
 -- The numerals are just what `decimal` writes.
 use Rattle.std.proofs.Common.{◌≡◌, ℕ, zero, suc, ◌^◌, ◌<◌, ◌≤◌, true, false, not, ◌&&◌, ◌||◌, eqb, leb, List, [], ◌∷◌, length, get_or, Some, decimal, sym, refl, ap, ◌∙◌, arith, rules}
-use Rattle.std.specs.List.{AllByRecursion}
+use Rattle.std.specs.List.{All}
 use Rattle.std.proofs.lemmas.Fmt.{digits_decimal, digits_value-decimal, decimal-digits_value, decimal_digit, decimal_nonempty, first_decimal}
+use Rattle.std.proofs.lemmas.List.Elements.{All-nil, All-cons}
 use Rattle.std.proofs.lemmas.Str.Parse.{IsNumeralModel, numerals_by_fold}
 use Rattle.std.proofs.lemmas.Bool.{and_parts, and_from, cond-true, le-leb, leb-true}
 use Rattle.std.proofs.lemmas.Bool.Decides.{nat_tests}
@@ -55,12 +56,12 @@ written_number low high n small lo hi =
     ∙ ap Some v
 
 -- a number has no tab and no byte 10
-digits_unparted : (bs : List ℕ) → all_digits bs ≡ true → AllByRecursion (λ b. separates b ≡ false) bs
-digits_unparted [] e = tt
+digits_unparted : (bs : List ℕ) → all_digits bs ≡ true → All (λ b. separates b ≡ false) bs
+digits_unparted [] e = All-nil (λ b. separates b ≡ false)
 digits_unparted (b ∷ bs) e =
     let p = and_parts (is_digit b) (all_digits bs) e in
     let d = p.0 in
-    (grind (arith, nat_tests), digits_unparted bs p.1)
+    All-cons (λ d. separates d ≡ false) b bs (grind (arith, nat_tests)) (digits_unparted bs p.1)
 
-pub decimal_unparted : (n : ℕ) → n < 2 ^ 64 → AllByRecursion (λ b. separates b ≡ false) (decimal n)
+pub decimal_unparted : (n : ℕ) → n < 2 ^ 64 → All (λ b. separates b ≡ false) (decimal n)
 decimal_unparted n h = digits_unparted (decimal n) (digits_decimal own n h)

@@ -1,6 +1,6 @@
 -- What is left by one writing after another.
-use Rattle.std.proofs.Common.{◌≡◌, ℕ, suc, ◌+◌, ◌^◌, ◌<◌, ◌≤◌, List, [], ◌∷◌, ◌++◌, length, drop, set, sym, refl, ap, ◌∙◌, ⊎_elim, arith, length-append, length-set}
-use Rattle.std.proofs.lemmas.List.{set_past}
+use Rattle.std.proofs.Common.{◌≡◌, ℕ, suc, ◌+◌, ◌^◌, ◌<◌, ◌≤◌, List, [], ◌∷◌, ◌++◌, length, take, drop, get_or, set, sym, refl, ap, ◌∙◌, ⊎_elim, arith, length-append, length-set}
+use Rattle.std.proofs.lemmas.List.{set_past, take_more}
 use Rattle.std.proofs.lemmas.List.Edits.{sets, sets-eq}
 use Rattle.std.proofs.lemmas.Bool.{cases_lt}
 use Rattle.tabbed_text.specs.declared.writer.Writer.{Writer}
@@ -29,6 +29,14 @@ placed_stopped xs at n ys short =
     (λ above. placed_past xs (moved at n) ys (omega arith) ∙ sym (placed_past xs (at + n) ys (omega arith)))
     (cases_lt (at + n) (2 ^ 64))
 
+-- one text and then another
+pub placed_then : (xs : List ℕ) (at : ℕ) (ys zs : List ℕ) → length xs < 2 ^ 64 → placed xs at (ys ++ zs) ≡ placed (placed xs at ys) (moved at (length ys)) zs
+placed_then xs at ys zs short =
+    placed_append xs at ys zs ∙ sym (placed_stopped (placed xs at ys) at (length ys) zs (omega (arith, length_placed xs at ys)))
+
+pub moved_then : (at : ℕ) (ys zs : List ℕ) → moved at (length (ys ++ zs)) ≡ moved (moved at (length ys)) (length zs)
+moved_then at ys zs = omega (arith, length-append ys zs)
+
 as_sets : (xs : List ℕ) (at : ℕ) (ys : List ℕ) → placed xs at ys ≡ sets xs at ys
 as_sets xs at [] = refl
 as_sets xs at (y ∷ ys) = as_sets (set xs at y) (suc at) ys
@@ -45,11 +53,9 @@ put_none xs at = record { placed_from_place = refl; place_moves_on = omega arith
 -- one writing and then another
 pub put_then : {ys zs lent between after : List ℕ} {at next last : ℕ} → length lent < 2 ^ 64 → Put ys lent at between next → Put zs between next after last → Put (ys ++ zs) lent at after last
 put_then {ys} {zs} {lent} {between} {after} {at} short p q =
-    let long : length between < 2 ^ 64 = omega (arith, ap length p.placed_from_place, length_placed lent at ys) in
     record {
-      placed_from_place =
-          q.placed_from_place ∙ ap (λ k. placed between k zs) p.place_moves_on ∙ placed_stopped between at (length ys) zs long ∙ ap (λ l. placed l (at + length ys) zs) p.placed_from_place ∙ sym (placed_append lent at ys zs);
-      place_moves_on = omega (arith, length-append ys zs, p.place_moves_on, q.place_moves_on);
+      placed_from_place = q.placed_from_place ∙ ap (λ k. placed between k zs) p.place_moves_on ∙ ap (λ l. placed l (moved at (length ys)) zs) p.placed_from_place ∙ sym (placed_then lent at ys zs short);
+      place_moves_on = q.place_moves_on ∙ ap (λ k. moved k (length zs)) p.place_moves_on ∙ sym (moved_then at ys zs);
     }
 
 -- a slice can be counted in 64 bits, whatever is written into it
@@ -62,3 +68,9 @@ writes_none w = record { put = put_none w.out.now w.at; same_slice = refl }
 pub writes_then : {ys zs : List ℕ} {before between after : Writer} → length before.out.now < 2 ^ 64 → Writes ys before between → Writes zs between after → Writes (ys ++ zs) before after
 writes_then short p q =
     record { put = put_then short p.put q.put; same_slice = q.same_slice ∙ p.same_slice }
+
+-- one byte more of a text
+pub text_more : (bs : List ℕ) (i : ℕ) → i < length bs → take (i + 1) bs ≡ take i bs ++ (get_or bs i 0 ∷ [])
+text_more bs i more = take_more bs i 0 more
+
+pub ruleset one_after_another = (placed_then, moved_then, text_more)

@@ -1,90 +1,81 @@
 -- Cutting a text into lines and fields undoes writing it, and writing undoes cutting.
 use Rattle.std.proofs.Common.{◌≡◌, ℕ, suc, ◌-◌, ◌<◌, Bool, true, false, eqb, ◌⊎◌, List, [], ◌∷◌, ◌++◌, map, length, get_or, refl, ap, ◌∙◌, subst, inl, inr, arith}
-use Rattle.std.specs.List.{flat_map, AllByRecursion}
-use Rattle.std.proofs.ByRecursion.{All-append, All-weaker}
+use Rattle.std.specs.List.{flat_map, onto_first, join_with_byte, All}
 use Rattle.std.proofs.lemmas.List.{append-nil, length-map}
+use Rattle.std.proofs.lemmas.List.Elements.{All-nil, All-cons, All-head, All-tail, All-append, All-weaker}
+use Rattle.std.proofs.lemmas.List.Splits.{slice_split_none, slice_split_at, join_with_byte-slice_split}
 use Rattle.std.proofs.lemmas.Bool.{cond_both, cond-true, cond-false, eq-eqb, eqb-true, eqb-false, or_parts}
-use Rattle.tabbed_text.specs.Fields.{prepend, pieces, ended, tabbed, lines_of, separates}
+use Rattle.tabbed_text.specs.Fields.{pieces, ended, tabbed, lines_of, separates}
 
 -- ---- fields
 
-tabbed_prepend : (b : ℕ) (fs : List (List ℕ)) → tabbed (prepend b fs) ≡ b ∷ tabbed fs
-tabbed_prepend b [] = refl
-tabbed_prepend b (f ∷ fs) = refl
-
-joined_tabbed : (fs : List (List ℕ)) → 0 < length fs → flat_map (λ g. 9 ∷ g) fs ≡ 9 ∷ tabbed fs
-joined_tabbed [] h = let z : ⊥ = omega arith in absurd z
-joined_tabbed (f ∷ fs) h = refl
-
-some_prepend : (b : ℕ) (fs : List (List ℕ)) → 0 < length (prepend b fs)
-some_prepend b [] = omega arith
-some_prepend b (f ∷ fs) = omega arith
-
-pub some_pieces : (s : ℕ) (bs : List ℕ) → 0 < length (pieces s bs)
-some_pieces s [] = omega arith
-some_pieces s (b ∷ bs) =
-    cond_both (eqb b s) ([] ∷ pieces s bs) (prepend b (pieces s bs)) (λ fs. 0 < length fs) (λ _. omega arith)
-    (λ _. some_prepend b (pieces s bs))
+tabbed_joined : (fs : List (List ℕ)) → tabbed fs ≡ join_with_byte 9 fs
+tabbed_joined [] = refl
+tabbed_joined (f ∷ []) = append-nil f
+tabbed_joined (f ∷ (g ∷ fs)) = ap (λ l. f ++ (9 ∷ l)) (tabbed_joined (g ∷ fs))
 
 pub tabbed_pieces : (bs : List ℕ) → tabbed (pieces 9 bs) ≡ bs
-tabbed_pieces [] = refl
-tabbed_pieces (b ∷ bs) =
-    cond_both (eqb b 9) ([] ∷ pieces 9 bs) (prepend b (pieces 9 bs)) (λ fs. tabbed fs ≡ b ∷ bs)
-    (λ e. let ih = tabbed_pieces bs in let n = eqb-true b 9 e in joined_tabbed (pieces 9 bs) (some_pieces 9 bs) ∙ cc)
-    (λ _. tabbed_prepend b (pieces 9 bs) ∙ ap (λ xs. b ∷ xs) (tabbed_pieces bs))
+tabbed_pieces bs = tabbed_joined (pieces 9 bs) ∙ join_with_byte-slice_split 9 bs
 
-pieces_one : (s : ℕ) (f : List ℕ) → AllByRecursion (λ b. eqb b s ≡ false) f → pieces s f ≡ f ∷ []
-pieces_one s [] free = refl
-pieces_one s (b ∷ f) free = cond-false (eqb b s) _ _ free.0 ∙ ap (prepend b) (pieces_one s f free.1)
+-- the places where a byte is no tab, is no end of a line, and is neither
+abbrev Untabbed : ℕ → Type 0
+Untabbed b = eqb b 9 ≡ false
 
-pieces_more : (s : ℕ) (f rest : List ℕ) → AllByRecursion (λ b. eqb b s ≡ false) f → pieces s (f ++ (s ∷ rest)) ≡ f ∷ pieces s rest
-pieces_more s [] rest free = cond-true (eqb s s) _ _ (eq-eqb s s refl)
-pieces_more s (b ∷ f) rest free = cond-false (eqb b s) _ _ free.0 ∙ ap (prepend b) (pieces_more s f rest free.1)
+abbrev Unended : ℕ → Type 0
+Unended b = eqb b 10 ≡ false
 
-pub pieces_tabbed : (fs : List (List ℕ)) → 0 < length fs → AllByRecursion (λ f. AllByRecursion (λ b. eqb b 9 ≡ false) f) fs → pieces 9 (tabbed fs) ≡ fs
-pieces_tabbed [] some free = let z : ⊥ = omega arith in absurd z
-pieces_tabbed (f ∷ []) some free = ap (pieces 9) (append-nil f) ∙ pieces_one 9 f free.0
+abbrev Unparted : ℕ → Type 0
+Unparted b = separates b ≡ false
+
+no_tab : (b : ℕ) → Unparted b → Untabbed b
+no_tab b e = (or_parts (eqb b 9) (eqb b 10) e).0
+
+no_end : (b : ℕ) → Unparted b → Unended b
+no_end b e = (or_parts (eqb b 9) (eqb b 10) e).1
+
+pub pieces_tabbed : (fs : List (List ℕ)) → 0 < length fs → All (All (λ b. eqb b 9 ≡ false)) fs → pieces 9 (tabbed fs) ≡ fs
+pieces_tabbed [] some free = absurd (omega arith)
+pieces_tabbed (f ∷ []) some free = ap (pieces 9) (append-nil f) ∙ slice_split_none (λ b. eqb b 9) f (All-head (All Untabbed) f [] free)
 pieces_tabbed (f ∷ (g ∷ fs)) some free =
-    pieces_more 9 f (tabbed (g ∷ fs)) free.0 ∙ ap (λ gs. f ∷ gs) (pieces_tabbed (g ∷ fs) (omega arith) free.1)
+    slice_split_at (λ b. eqb b 9) f 9 (tabbed (g ∷ fs)) (All-head (All Untabbed) f (g ∷ fs) free) (eq-eqb 9 9 refl)
+    ∙ ap (λ gs. f ∷ gs) (pieces_tabbed (g ∷ fs) (omega arith) (All-tail (All Untabbed) f (g ∷ fs) free))
 
 -- ---- lines
 
-ended_more : (s : ℕ) (f rest : List ℕ) → AllByRecursion (λ b. eqb b s ≡ false) f → ended s (f ++ (s ∷ rest)) ≡ f ∷ ended s rest
-ended_more s [] rest free = cond-true (eqb s s) _ _ (eq-eqb s s refl)
-ended_more s (b ∷ f) rest free = cond-false (eqb b s) _ _ free.0 ∙ ap (prepend b) (ended_more s f rest free.1)
+ended_more : (f rest : List ℕ) → All Unended f → ended 10 (f ++ (10 ∷ rest)) ≡ f ∷ ended 10 rest
+ended_more [] rest free = refl
+ended_more (b ∷ f) rest free =
+    cond-false (eqb b 10) ([] ∷ ended 10 (f ++ (10 ∷ rest))) (onto_first b (ended 10 (f ++ (10 ∷ rest)))) (All-head Unended b f free)
+    ∙ ap (onto_first b) (ended_more f rest (All-tail Unended b f free))
 
-no_tab : (b : ℕ) → separates b ≡ false → eqb b 9 ≡ false
-no_tab b e = (or_parts (eqb b 9) (eqb b 10) e).0
-
-no_end : (b : ℕ) → separates b ≡ false → eqb b 10 ≡ false
-no_end b e = (or_parts (eqb b 9) (eqb b 10) e).1
-
-abbrev Unparted : List ℕ → Type 0
-Unparted f = AllByRecursion (λ b. separates b ≡ false) f
-
-abbrev Unended : List ℕ → Type 0
-Unended f = AllByRecursion (λ b. eqb b 10 ≡ false) f
-
-joined_unended : (fs : List (List ℕ)) → AllByRecursion Unparted fs → Unended (flat_map (λ g. 9 ∷ g) fs)
-joined_unended [] free = tt
+joined_unended : (fs : List (List ℕ)) → All (All Unparted) fs → All Unended (flat_map (λ g. 9 ∷ g) fs)
+joined_unended [] free = All-nil Unended
 joined_unended (f ∷ fs) free =
-    (refl, All-append (λ b. eqb b 10 ≡ false) f _ (All-weaker _ _ no_end f free.0) (joined_unended fs free.1))
+    let rest : List ℕ = flat_map (λ g. 9 ∷ g) fs in
+    let here = All-weaker Unparted Unended no_end f (All-head (All Unparted) f fs free) in
+    let tab : Unended 9 = refl in
+    All-cons Unended 9 (f ++ rest) tab (All-append Unended f rest here (joined_unended fs (All-tail (All Unparted) f fs free)))
 
-tabbed_unended : (fs : List (List ℕ)) → AllByRecursion Unparted fs → Unended (tabbed fs)
-tabbed_unended [] free = tt
+tabbed_unended : (fs : List (List ℕ)) → All (All Unparted) fs → All Unended (tabbed fs)
+tabbed_unended [] free = All-nil Unended
 tabbed_unended (f ∷ fs) free =
-    All-append (λ b. eqb b 10 ≡ false) f _ (All-weaker _ _ no_end f free.0) (joined_unended fs free.1)
+    let here = All-weaker Unparted Unended no_end f (All-head (All Unparted) f fs free) in
+    All-append Unended f (flat_map (λ g. 9 ∷ g) fs) here (joined_unended fs (All-tail (All Unparted) f fs free))
 
 -- a line that is written in front of a text is its first line
-pub lines_cons : (fs : List (List ℕ)) (rest : List ℕ) → 0 < length fs → AllByRecursion (λ f. AllByRecursion (λ b. separates b ≡ false) f) fs → lines_of (tabbed fs ++ (10 ∷ rest)) ≡ fs ∷ lines_of rest
+pub lines_cons : (fs : List (List ℕ)) (rest : List ℕ) → 0 < length fs → All (λ f. All (λ b. separates b ≡ false) f) fs → lines_of (tabbed fs ++ (10 ∷ rest)) ≡ fs ∷ lines_of rest
 lines_cons fs rest some free =
-    ap (map (pieces 9)) (ended_more 10 (tabbed fs) rest (tabbed_unended fs free))
-    ∙ ap (λ gs. gs ∷ lines_of rest) (pieces_tabbed fs some (All-weaker _ _ (λ f. All-weaker _ _ no_tab f) fs free))
+    ap (map (pieces 9)) (ended_more (tabbed fs) rest (tabbed_unended fs free))
+    ∙ ap (λ gs. gs ∷ lines_of rest) (pieces_tabbed fs some (All-weaker (All Unparted) (All Untabbed) (All-weaker Unparted Untabbed no_tab) fs free))
+
+some_onto : (b : ℕ) (fs : List (List ℕ)) → 0 < length (onto_first b fs)
+some_onto b [] = omega arith
+some_onto b (f ∷ fs) = omega arith
 
 some_ended : (s b : ℕ) (bs : List ℕ) → 0 < length (ended s (b ∷ bs))
 some_ended s b bs =
-    cond_both (eqb b s) ([] ∷ ended s bs) (prepend b (ended s bs)) (λ fs. 0 < length fs) (λ _. omega arith)
-    (λ _. some_prepend b (ended s bs))
+    cond_both (eqb b s) ([] ∷ ended s bs) (onto_first b (ended s bs)) (λ fs. 0 < length fs) (λ _. omega arith)
+    (λ _. some_onto b (ended s bs))
 
 -- a text with no lines has no bytes
 pub no_lines : (bs : List ℕ) → length (lines_of bs) ≡ 0 → bs ≡ []
@@ -119,7 +110,7 @@ first_cons b bs true t e more =
     record { line = []; rest = bs; whole = ap (λ x. x ∷ bs) n; cut = cond-true (eqb b 10) _ _ t; ends = ends_later b bs e }
 first_cons b bs false t e more =
     let m = more t in
-    record { line = b ∷ m.line; rest = m.rest; whole = ap (λ x. b ∷ x) m.whole; cut = cond-false (eqb b 10) _ _ t ∙ ap (prepend b) m.cut; ends = m.ends }
+    record { line = b ∷ m.line; rest = m.rest; whole = ap (λ x. b ∷ x) m.whole; cut = cond-false (eqb b 10) _ _ t ∙ ap (onto_first b) m.cut; ends = m.ends }
 
 pub first_line : (bs : List ℕ) → 0 < length bs → get_or bs (length bs - 1) 0 ≡ 10 → FirstLine bs
 first_line [] some e = let z : ⊥ = omega arith in absurd z

@@ -1,60 +1,37 @@
 -- The next field of what a walk has yet to read, how many follow, and the next line.
-use Rattle.std.proofs.Common.{◌≡◌, ℕ, suc, ◌+◌, ◌-◌, ◌<◌, ◌≤◌, Bool, true, false, cond, eqb, List, [], ◌∷◌, length, get_or, take, drop, sym, refl, ap, ◌∙◌, arith}
-use Rattle.std.proofs.lemmas.List.{drop-drop, at_drop_more, at_drop_all, drop_more}
-use Rattle.std.proofs.lemmas.Bool.{cond_both, cond-true, cond-false, eq-eqb, ne_eqb, eqb-true}
-use Rattle.tabbed_text.specs.Fields.{up_to, after, prepend, pieces, fields_of, separates, field_len, more_fields, FieldOf, TabFirst, EndsField}
+use Rattle.std.proofs.Common.{◌≡◌, ℕ, suc, ◌+◌, ◌-◌, ◌<◌, ◌≤◌, Bool, true, false, cond, eqb, ltb, not, List, [], ◌∷◌, ◌++◌, length, get_or, take, drop, count_by, Some, None, sym, refl, ap, ◌∙◌, arith}
+use Rattle.std.specs.List.{prefix_len, take_while, position_or_len, position, onto_first, All}
+use Rattle.std.proofs.lemmas.Bool.{cond-true, cond-false, eq-eqb, eqb-true, ltb-false}
+use Rattle.std.proofs.lemmas.List.{drop-drop, take_all, drop_all}
+use Rattle.std.proofs.lemmas.List.Elements.{All-nil, All-cons}
+use Rattle.std.proofs.lemmas.List.Folds.{length-prefix_len}
+use Rattle.std.proofs.lemmas.List.Splits.{length-slice_split}
+use Rattle.std.proofs.lemmas.List.Sums.{prefix_len-le-length, take_while-cons}
+use Rattle.tabbed_text.proofs.Chains.{cond_some, cond_none}
+use Rattle.tabbed_text.specs.Fields.{up_to, after, fields_of, separates, more_fields, parted, FieldOf}
 
--- ---- how long a field is
+-- ---- a field, and what follows it
 
-pub len_step : (bs : List ℕ) (i : ℕ) → i < length bs → field_len (drop i bs) ≡ cond (separates (get_or bs i 0)) 0 (suc (field_len (drop (i + 1) bs)))
-len_step bs i h = at_drop_more field_len bs i 0 h
+abbrev pub unparted : ℕ → Bool
+unparted b = not (separates b)
 
-pub len_end : (bs : List ℕ) (i : ℕ) → length bs ≤ i → field_len (drop i bs) ≡ 0
-len_end bs i h = at_drop_all field_len bs i h
+abbrev field_len : List ℕ → ℕ
+field_len [] = 0
+field_len (b ∷ bs) = cond (separates b) 0 (suc (field_len bs))
 
--- ---- how many fields a line has
+one_more : (p : Bool) (n m : ℕ) → n ≡ m → cond (not p) (1 + n) 0 ≡ cond p 0 (suc m)
+one_more true n m e = refl
+one_more false n m e = omega arith
 
-same_count : (b : ℕ) (fs : List (List ℕ)) → 0 < length fs → length (prepend b fs) ≡ length fs
-same_count b [] h = let z : ⊥ = omega arith in absurd z
-same_count b (f ∷ fs) h = refl
-
-some_piece : (s : ℕ) (bs : List ℕ) → 0 < length (pieces s bs)
-some_piece s [] = omega arith
-some_piece s (b ∷ bs) =
-    cond_both (eqb b s) ([] ∷ pieces s bs) (prepend b (pieces s bs)) (λ fs. 0 < length fs) (λ _. omega arith) (λ _. omega (arith, same_count b (pieces s bs) (some_piece s bs), some_piece s bs))
-
-count_end_cons : (b : ℕ) (bs : List ℕ) → eqb b 10 ≡ true → length (fields_of (b ∷ bs)) ≡ 1
-count_end_cons b bs f = simp f
-
-count_tab_cons : (b : ℕ) (bs : List ℕ) → eqb b 10 ≡ false → eqb b 9 ≡ true → length (fields_of (b ∷ bs)) ≡ suc (length (fields_of bs))
-count_tab_cons b bs f e = simp (e, f)
-
-count_other_cons : (b : ℕ) (bs : List ℕ) → eqb b 10 ≡ false → eqb b 9 ≡ false → length (fields_of (b ∷ bs)) ≡ length (fields_of bs)
-count_other_cons b bs f e = simp (e, f) (same_count b (fields_of bs) (some_piece 9 (up_to 10 bs)))
-
-module _ (bs : List ℕ) (i : ℕ) (h : i < length bs) where
-  abbrev counted : length (fields_of (drop i bs)) ≡ length (fields_of (get_or bs i 0 ∷ drop (i + 1) bs))
-  counted = at_drop_more (λ xs. length (fields_of xs)) bs i 0 h
-
-  pub count_at_end : get_or bs i 0 ≡ 10 → length (fields_of (drop i bs)) ≡ 1
-  count_at_end f = counted ∙ count_end_cons (get_or bs i 0) (drop (i + 1) bs) (eq-eqb _ 10 f)
-
-  pub count_at_tab : get_or bs i 0 ≡ 9 → length (fields_of (drop i bs)) ≡ suc (length (fields_of (drop (i + 1) bs)))
-  count_at_tab e = counted ∙ count_tab_cons (get_or bs i 0) (drop (i + 1) bs) (ne_eqb _ 10 (λ q. omega arith)) (eq-eqb _ 9 e)
-
-  pub count_at_other : (get_or bs i 0 ≡ 10 → ⊥) → (get_or bs i 0 ≡ 9 → ⊥) → length (fields_of (drop i bs)) ≡ length (fields_of (drop (i + 1) bs))
-  count_at_other f e = counted ∙ count_other_cons (get_or bs i 0) (drop (i + 1) bs) (ne_eqb _ 10 f) (ne_eqb _ 9 e)
-
-pub count_none : (bs : List ℕ) (i : ℕ) → length bs ≤ i → length (fields_of (drop i bs)) ≡ 1
-count_none bs i h = at_drop_all (λ xs. length (fields_of xs)) bs i h
-
--- ---- a field, and those that follow it
+field_len_is : (xs : List ℕ) → prefix_len unparted xs ≡ field_len xs
+field_len_is [] = refl
+field_len_is (b ∷ bs) = one_more (separates b) (prefix_len unparted bs) (field_len bs) (field_len_is bs)
 
 more_cons : (b : ℕ) (bs : List ℕ) (t n : Bool) → eqb b 9 ≡ t → eqb b 10 ≡ n → fields_of bs ≡ take (field_len bs) bs ∷ more_fields (drop (field_len bs) bs) → fields_of (b ∷ bs) ≡ take (field_len (b ∷ bs)) (b ∷ bs) ∷ more_fields (drop (field_len (b ∷ bs)) (b ∷ bs))
 more_cons b bs true true e f h = let z : ⊥ = omega (arith, eqb-true b 9 e, eqb-true b 10 f) in absurd z
 more_cons b bs false true e f h = simp (e, f)
 more_cons b bs true false e f h = simp (e, f)
-more_cons b bs false false e f h = simp (e, f) (ap (prepend b) h)
+more_cons b bs false false e f h = simp (e, f) (ap (onto_first b) h)
 
 pub first_more : (xs : List ℕ) → fields_of xs ≡ take (field_len xs) xs ∷ more_fields (drop (field_len xs) xs)
 first_more [] = refl
@@ -71,45 +48,99 @@ after_more (b ∷ bs) = after_cons b bs (eqb b 9) (eqb b 10) refl refl (after_mo
 
 field_cons : (b : ℕ) (bs : List ℕ) (p : Bool) → separates b ≡ p → FieldOf bs (take (field_len bs) bs) (drop (field_len bs) bs)
     → FieldOf (b ∷ bs) (take (field_len (b ∷ bs)) (b ∷ bs)) (drop (field_len (b ∷ bs)) (b ∷ bs))
-field_cons b bs true e h = simp e (record { whole = refl; unparted = tt; parted_after = e })
-field_cons b bs false e h = simp e (record { whole = ap (λ xs. b ∷ xs) h.whole; unparted = (e, h.unparted); parted_after = h.parted_after })
+field_cons b bs true e h = simp e (record { whole = refl; unparted = All-nil (λ d. separates d ≡ false); parted_after = e })
+field_cons b bs false e h = simp e (record { whole = ap (λ xs. b ∷ xs) h.whole; unparted = All-cons (λ d. separates d ≡ false) b (take (field_len bs) bs) e h.unparted; parted_after = h.parted_after })
 
 pub field_here : (xs : List ℕ) → FieldOf xs (take (field_len xs) xs) (drop (field_len xs) xs)
-field_here [] = record { whole = refl; unparted = tt; parted_after = refl }
+field_here [] = record { whole = refl; unparted = All-nil (λ d. separates d ≡ false); parted_after = refl }
 field_here (b ∷ bs) = field_cons b bs (separates b) refl (field_here bs)
 
-module _ (bs : List ℕ) (at end : ℕ) (is : end ≡ at + field_len (drop at bs)) where
-  end_is : drop (field_len (drop at bs)) (drop at bs) ≡ drop end bs
-  end_is = drop-drop (field_len (drop at bs)) at bs ∙ ap (λ k. drop k bs) (sym is)
+pub len_fits : (xs : List ℕ) (n : ℕ) → n ≡ prefix_len unparted xs → n ≤ length xs
+len_fits xs n is = omega (arith, prefix_len-le-length unparted xs)
 
-  walk_first : fields_of (drop at bs) ≡ take (end - at) (drop at bs) ∷ more_fields (drop end bs)
-  walk_first =
-      let s : field_len (drop at bs) ≡ end - at = omega arith in
-      first_more (drop at bs) ∙ ap (λ n. take n (drop at bs) ∷ more_fields (drop (field_len (drop at bs)) (drop at bs))) s ∙ ap (λ r. take (end - at) (drop at bs) ∷ more_fields r) end_is
+pub unparted_at : (xs f : List ℕ) (k d : ℕ) → f ≡ take (prefix_len unparted xs) xs → k < length f → separates (get_or f k d) ≡ false
+unparted_at xs f k d is h =
+    let all : All (λ b. separates b ≡ false) f = rw (is, field_len_is xs) (field_here xs).unparted in
+    all k d h
 
-  walk_field : FieldOf (drop at bs) (take (end - at) (drop at bs)) (drop end bs)
-  walk_field =
-      let s : field_len (drop at bs) ≡ end - at = omega arith in
-      rw (← end_is, ← s) (field_here (drop at bs))
+-- f is what stands from a place on before the first tab or byte 10
+module _ (bs f : List ℕ) (at : ℕ) (is : f ≡ take (prefix_len unparted (drop at bs)) (drop at bs)) where
+  field_is : f ≡ take (field_len (drop at bs)) (drop at bs)
+  field_is = is ∙ ap (λ n. take n (drop at bs)) (field_len_is (drop at bs))
 
-  walk_rest : after 10 (drop end bs) ≡ after 10 (drop at bs)
-  walk_rest = ap (after 10) (sym end_is) ∙ after_more (drop at bs)
+  left_is : drop (field_len (drop at bs)) (drop at bs) ≡ drop (at + length f) bs
+  left_is =
+      let n : length f ≡ field_len (drop at bs) = ap length is ∙ length-prefix_len unparted (drop at bs) ∙ field_len_is (drop at bs) in
+      let k : at + field_len (drop at bs) ≡ at + length f = omega arith in
+      drop-drop (field_len (drop at bs)) at bs ∙ ap (λ m. drop m bs) k
 
-  pub ends_field : at ≤ end → end ≤ length bs → EndsField bs at end
-  ends_field lo hi = record { not_before = lo; within = hi; field = walk_field; leads = walk_first; next_line = walk_rest }
+  field_at : FieldOf (drop at bs) f (drop (at + length f) bs)
+  field_at = rw (← left_is, field_is) (field_here (drop at bs))
 
--- ---- whether a field follows
+  pub whole_at : drop at bs ≡ f ++ drop (at + length f) bs
+  whole_at = field_at.whole
 
-pub none_past : (bs : List ℕ) (at : ℕ) → length bs ≤ at → more_fields (drop at bs) ≡ []
-none_past bs at h = at_drop_all more_fields bs at h
+  pub parted_at : parted (drop (at + length f) bs) ≡ true
+  parted_at = field_at.parted_after
 
-pub none_here : (bs : List ℕ) (at : ℕ) → at < length bs → (get_or bs at 0 ≡ 9 → ⊥) → more_fields (drop at bs) ≡ []
-none_here bs at h ne = at_drop_more more_fields bs at 0 h ∙ cond-false (eqb (get_or bs at 0) 9) (fields_of (drop (at + 1) bs)) [] (ne_eqb _ 9 ne)
+  pub fields_at : fields_of (drop at bs) ≡ f ∷ more_fields (drop (at + length f) bs)
+  fields_at = rw (← left_is, field_is) (first_more (drop at bs))
 
-pub tab_here : (bs : List ℕ) (at : ℕ) → at < length bs → get_or bs at 0 ≡ 9 → TabFirst (drop at bs) (drop (at + 1) bs)
-tab_here bs at h e =
-    record {
-      tab = drop_more bs at 0 h ∙ ap (λ b. b ∷ drop (at + 1) bs) e;
-      fields = at_drop_more more_fields bs at 0 h ∙ cond-true (eqb (get_or bs at 0) 9) (fields_of (drop (at + 1) bs)) [] (eq-eqb _ 9 e);
-      next_line = sym (at_drop_more (after 10) bs at 0 h ∙ cond-false (eqb (get_or bs at 0) 10) (drop (at + 1) bs) (after 10 (drop (at + 1) bs)) (ne_eqb _ 10 (λ q. omega arith)));
-    }
+  pub after_at : after 10 (drop (at + length f) bs) ≡ after 10 (drop at bs)
+  after_at = ap (after 10) (sym left_is) ∙ after_more (drop at bs)
+
+-- ---- how many fields a line has
+
+up_to_cons : (b : ℕ) (bs : List ℕ) (n : Bool) → eqb b 10 ≡ n → up_to 10 bs ≡ take_while (λ d. not (eqb d 10)) bs → up_to 10 (b ∷ bs) ≡ take_while (λ d. not (eqb d 10)) (b ∷ bs)
+up_to_cons b bs true f h = simp f
+up_to_cons b bs false f h =
+    cond-false (eqb b 10) [] (b ∷ up_to 10 bs) f ∙ ap (λ l. b ∷ l) h
+    ∙ sym (take_while-cons (λ d. not (eqb d 10)) b bs ∙ ap (λ t. cond (not t) (b ∷ take_while (λ d. not (eqb d 10)) bs) []) f)
+
+up_to_is : (bs : List ℕ) → up_to 10 bs ≡ take_while (λ d. not (eqb d 10)) bs
+up_to_is [] = refl
+up_to_is (b ∷ bs) = up_to_cons b bs (eqb b 10) refl (up_to_is bs)
+
+-- one more than its tabs
+pub fields_count : (xs : List ℕ) → length (fields_of xs) ≡ 1 + count_by (λ b. eqb b 9) (take_while (λ b. not (eqb b 10)) xs)
+fields_count xs = omega (arith, length-slice_split (λ b. eqb b 9) (up_to 10 xs), ap (count_by (λ b. eqb b 9)) (up_to_is xs))
+
+pub more_count : (xs : List ℕ) → 0 < length xs → get_or xs 0 0 ≡ 9 → length (more_fields xs) ≡ 1 + count_by (λ b. eqb b 9) (take_while (λ b. not (eqb b 10)) (take (length xs - 1) (drop 1 xs)))
+more_count [] some tab = let z : ⊥ = omega arith in absurd z
+more_count (b ∷ bs) some tab =
+    let all : take (length (b ∷ bs) - 1) bs ≡ bs = take_all (length (b ∷ bs) - 1) bs (omega arith) in
+    rw all (ap length (cond-true (eqb b 9) (fields_of bs) [] (eq-eqb b 9 tab)) ∙ fields_count bs)
+
+-- ---- where the next line starts
+
+abbrev line_len : List ℕ → ℕ
+line_len [] = 0
+line_len (b ∷ bs) = cond (eqb b 10) 0 (suc (line_len bs))
+
+line_len_is : (xs : List ℕ) → position_or_len (λ b. eqb b 10) xs ≡ line_len xs
+line_len_is [] = refl
+line_len_is (b ∷ bs) = one_more (eqb b 10) (position_or_len (λ d. eqb d 10) bs) (line_len bs) (line_len_is bs)
+
+cut_cons : (b : ℕ) (bs : List ℕ) (n : Bool) → eqb b 10 ≡ n → after 10 bs ≡ drop (suc (line_len bs)) bs → after 10 (b ∷ bs) ≡ drop (suc (line_len (b ∷ bs))) (b ∷ bs)
+cut_cons b bs true f h = simp f
+cut_cons b bs false f h = simp f h
+
+after_cut : (xs : List ℕ) → after 10 xs ≡ drop (suc (line_len xs)) xs
+after_cut [] = refl
+after_cut (b ∷ bs) = cut_cons b bs (eqb b 10) refl (after_cut bs)
+
+pub after_some : (bs : List ℕ) (i : ℕ) → Some i ≡ position (λ b. eqb b 10) bs → drop (i + 1) bs ≡ after 10 bs
+after_some bs i e =
+    let p = cond_some (ltb (position_or_len (λ b. eqb b 10) bs) (length bs)) (position_or_len (λ b. eqb b 10) bs) i (sym e) in
+    let k : suc (line_len bs) ≡ i + 1 = omega (arith, p.1, line_len_is bs) in
+    sym (after_cut bs ∙ ap (λ m. drop m bs) k)
+
+pub after_none : (bs : List ℕ) → None ≡ position (λ b. eqb b 10) bs → drop (length bs) bs ≡ after 10 bs
+after_none bs e =
+    let p = ltb-false (position_or_len (λ b. eqb b 10) bs) (length bs) (cond_none _ _ (sym e)) in
+    drop_all (length bs) bs (omega arith) ∙ sym (after_cut bs ∙ drop_all (suc (line_len bs)) bs (omega (arith, p, line_len_is bs)))
+
+-- what the reading of a field and of a line asks for
+pub ruleset field_steps = (len_fits, whole_at, unparted_at, parted_at, fields_at, after_at)
+
+pub ruleset line_ends = (after_some, after_none)

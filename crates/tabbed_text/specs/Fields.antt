@@ -1,7 +1,7 @@
 -- A text is cut into lines, each ended by byte 10, and a line into fields, parted by tabs (byte 9). Every tab parts two
 -- fields: where tabs meet, and at a line's ends, a field is empty, and an empty line has one field.
-use Rattle.std.specs.Prelude.{◌≡◌, ℕ, suc, ◌-◌, ◌≤◌, Bool, true, false, cond, ◌||◌, List, [], ◌∷◌, ◌++◌, map, length, take, drop, ◌==◌}
-use Rattle.std.specs.List.{flat_map, AllByRecursion}
+use Rattle.std.specs.Prelude.{◌≡◌, ℕ, Bool, true, false, cond, ◌||◌, List, [], ◌∷◌, ◌++◌, map, Some, None, Option, ◌==◌}
+use Rattle.std.specs.List.{flat_map, onto_first, slice_split, All}
 
 -- what stands before the first s
 abbrev pub up_to : ℕ → List ℕ → List ℕ
@@ -13,20 +13,14 @@ abbrev pub after : ℕ → List ℕ → List ℕ
 after s [] = []
 after s (b ∷ bs) = cond (b == s) bs (after s bs)
 
--- b in front of the first of the pieces
-abbrev pub prepend : ℕ → List (List ℕ) → List (List ℕ)
-prepend b [] = (b ∷ []) ∷ []
-prepend b (f ∷ fs) = (b ∷ f) ∷ fs
-
 -- the pieces between the s
 abbrev pub pieces : ℕ → List ℕ → List (List ℕ)
-pieces s [] = [] ∷ []
-pieces s (b ∷ bs) = cond (b == s) ([] ∷ pieces s bs) (prepend b (pieces s bs))
+pieces s bs = slice_split (λ b. b == s) bs
 
 -- the pieces before each s, and one more where the text does not end with s
 abbrev pub ended : ℕ → List ℕ → List (List ℕ)
 ended s [] = []
-ended s (b ∷ bs) = cond (b == s) ([] ∷ ended s bs) (prepend b (ended s bs))
+ended s (b ∷ bs) = cond (b == s) ([] ∷ ended s bs) (onto_first b (ended s bs))
 
 -- the fields of the first line
 abbrev pub fields_of : List ℕ → List (List ℕ)
@@ -55,15 +49,10 @@ abbrev pub parted : List ℕ → Bool
 parted [] = true
 parted (b ∷ bs) = separates b
 
--- how many bytes stand before the first tab or byte 10
-abbrev pub field_len : List ℕ → ℕ
-field_len [] = 0
-field_len (b ∷ bs) = cond (separates b) 0 (suc (field_len bs))
-
 -- f is the bytes of xs up to the next tab, byte 10 or the end, and ys is all that follows it
 pub record FieldOf (xs f ys : List ℕ) : Type 0 where
   pub whole : xs ≡ f ++ ys
-  pub unparted : AllByRecursion (λ b. separates b ≡ false) f
+  pub unparted : All (λ b. separates b ≡ false) f
   pub parted_after : parted ys ≡ true
 
 -- no field follows in the line, and the walk stays
@@ -74,20 +63,12 @@ pub record NoField (xs ys : List ℕ) : Type 0 where
 -- a tab, then the field f, and ys is all that follows it
 pub record NextField (xs f ys : List ℕ) : Type 0 where
   pub whole : xs ≡ 9 ∷ (f ++ ys)
-  pub unparted : AllByRecursion (λ b. separates b ≡ false) f
+  pub unparted : All (λ b. separates b ≡ false) f
   pub parted_after : parted ys ≡ true
   pub leads : more_fields xs ≡ f ∷ more_fields ys
 
--- a tab stands first in xs, and ys is all that follows it
-pub record TabFirst (xs ys : List ℕ) : Type 0 where
-  pub tab : xs ≡ 9 ∷ ys
-  pub fields : more_fields xs ≡ fields_of ys
-  pub next_line : after 10 ys ≡ after 10 xs
-
--- the field that starts at a place of the text ends at another
-pub record EndsField (bs : List ℕ) (at end : ℕ) : Type 0 where
-  pub not_before : at ≤ end
-  pub within : end ≤ length bs
-  pub field : FieldOf (drop at bs) (take (end - at) (drop at bs)) (drop end bs)
-  pub leads : fields_of (drop at bs) ≡ take (end - at) (drop at bs) ∷ more_fields (drop end bs)
-  pub next_line : after 10 (drop end bs) ≡ after 10 (drop at bs)
+-- the byte of a field that has just one
+abbrev pub letter_of : List ℕ → Option ℕ
+letter_of [] = None
+letter_of (b ∷ []) = Some b
+letter_of (b ∷ (d ∷ bs)) = None

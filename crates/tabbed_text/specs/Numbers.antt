@@ -23,8 +23,3 @@ value bs = value_from 0 bs
 -- the number that the bytes write, where they write one from low to high
 abbrev pub number_in : ℕ → ℕ → List ℕ → Option ℕ
 number_in low high bs = cond (numeral bs && nat_le low (value bs) && nat_le (value bs) high) (Some (value bs)) None
-
--- the number, where it is not below low
-abbrev pub at_least : ℕ → Option ℕ → Option ℕ
-at_least low None = None
-at_least low (Some n) = cond (nat_le low n) (Some n) None

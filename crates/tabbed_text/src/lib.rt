@@ -2,6 +2,7 @@
 #![tactic(auto)]
 
 pub mod fields;
+pub mod letters;
 pub mod numbers;
 pub mod whole;
 pub mod writer;

@@ -5,7 +5,8 @@ ghost use Rattle.tabbed_text.specs.Writing.{Writes};
 
 use crate::writer::Writer;
 
-// What can be written, by the bytes that it means.
+// What can be written, by the bytes that it means. No Display: that prints text through a formatter and may fail, and
+// here are bytes and a call that cannot fail.
 pub trait Text {
     ghost bytes: { Self → List ℕ };
 
@@ -30,12 +31,12 @@ pub fn write_whole<T: Text>(text: &T, out: &mut [u8]) -> Option<usize>
 fn measured<T: Text>(text: &T) -> usize
     ensures { result ≡ min (length (T.Text.bytes text.now)) (2 ^ 64 - 1) }
 {
-    let mut nowhere = [0u8; 0];
-    let mut w = Writer::new(&mut nowhere);
+    let mut w = Writer::new(&mut []);
     text.put(&mut w);
     w.len()
 }
 
+#[tactic(auto, using(crate::proofs::Placing::placed_all))]
 fn write<T: Text>(text: &T, out: &mut [u8])
     requires { length (T.Text.bytes text.now) ≤ length out.old }
     ensures { out.new ≡ T.Text.bytes text.now ++ drop (length (T.Text.bytes text.now)) out.old }

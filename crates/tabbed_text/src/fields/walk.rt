@@ -1,73 +1,50 @@
 // The steps of the walk.
-ghost use Rattle.std.specs.Prelude.{◌≡◌, ◌+◌, ◌<◌, ◌≤◌, true, false, [], ◌∷◌, length, drop, MatchOption, ◌==◌};
-ghost use Rattle.tabbed_text.specs.Fields.{separates, fields_of, more_fields, after, FieldOf, NoField, NextField, TabFirst, EndsField};
-ghost use Rattle.tabbed_text.specs.Remains.{remains};
+ghost use Rattle.std.specs.Prelude.{◌≡◌, ◌≤◌, ◌∷◌, length, drop, ◌==◌, not, count_by};
+ghost use Rattle.std.specs.Iterator.{item_count};
+ghost use Rattle.std.specs.List.{take_while, prefix_len, position};
+ghost use Rattle.tabbed_text.specs.Fields.{separates, fields_of, more_fields, after, FieldOf};
+ghost use Rattle.tabbed_text.specs.Remains.{remains, GivesNext};
 
 use crate::fields::Fields;
 
 fn is_separator(b: u8) -> bool
     ensures { result ≡ separates b }
 {
-    b == b'\t' || b == b'\n'
+    matches!(b, b'\t' | b'\n')
 }
 
-// Where the field that starts at `at` ends.
-fn field_end(bytes: &[u8], at: usize) -> usize
-    requires { at ≤ length bytes.now }
-    ensures { EndsField bytes.now at result }
+// How many bytes stand before the first tab or byte 10.
+fn field_len(bytes: &[u8]) -> usize
+    ensures { result ≡ prefix_len (λ b. not (separates b)) bytes.now }
 {
-    for i in at..bytes.len() {
-        if is_separator(bytes[i]) {
-            return i;
-        }
-    }
-    bytes.len()
+    bytes.iter().take_while(|b| !is_separator(**b)).count()
 }
 
-// Whether a tab stands at `at`.
-fn is_tab(bytes: &[u8], at: usize) -> bool
-    ensures yes { result ≡ true → (at < length bytes.now) × TabFirst (drop at bytes.now) (drop (at + 1) bytes.now) }
-    ensures no { result ≡ false → more_fields (drop at bytes.now) ≡ [] }
+// How many tabs the first line has.
+fn tabs(bytes: &[u8]) -> usize
+    ensures { result ≡ count_by (λ b. b == 9) (take_while (λ b. not (b == 10)) bytes.now) }
 {
-    at < bytes.len() && bytes[at] == b'\t'
+    let line = bytes.iter().take_while(|b| **b != b'\n');
+    line.filter(|b| **b == b'\t').count()
 }
 
-// Whether nothing stands at `at` and after it.
-fn is_end(bytes: &[u8], at: usize) -> bool
-    ensures { result ≡ (length (drop at bytes.now) == 0) }
+// Where the first line ends.
+fn newline(bytes: &[u8]) -> Option<usize>
+    ensures { result ≡ position (λ b. b == 10) bytes.now }
 {
-    at >= bytes.len()
+    bytes.iter().position(|b| *b == b'\n')
 }
 
-// Where the line after that of `at` starts.
-fn line_end(bytes: &[u8], at: usize) -> usize
-    requires { at ≤ length bytes.now }
+// How many bytes the first line has, with its end.
+#[tactic(auto, using(crate::proofs::Walking::line_ends))]
+fn line_len(bytes: &[u8]) -> usize
     ensures within { result ≤ length bytes.now }
-    ensures value { drop result bytes.now ≡ after 10 (drop at bytes.now) }
+    ensures value { drop result bytes.now ≡ after 10 bytes.now }
 {
-    for i in at..bytes.len() {
-        if bytes[i] == b'\n' {
-            return i + 1;
-        }
+    match newline(bytes) {
+        Some(i) => i + 1,
+        None => bytes.len(),
     }
-    bytes.len()
-}
-
-// How many fields the line has from `at` on.
-fn fields_from(bytes: &[u8], at: usize) -> usize
-    requires { at ≤ length bytes.now }
-    ensures { result ≡ length (fields_of (drop at bytes.now)) }
-{
-    let mut n = 1;
-    for i in at..bytes.len() {
-        if bytes[i] == b'\n' {
-            return n;
-        }
-        if bytes[i] == b'\t' {
-            n += 1;
-        }
-    }
-    n
 }
 
 impl<'a> Fields<'a> {
@@ -79,46 +56,34 @@ impl<'a> Fields<'a> {
     }
 
     // The field that starts here: the bytes up to the next tab, byte 10 or the end, before which the walk stops.
+    #[tactic(auto, using(crate::proofs::Walking::field_steps))]
     pub fn first(&mut self) -> &'a [u8]
         ensures yields_field { FieldOf (remains self.old) result.now (remains self.new) }
         ensures leads_fields { fields_of (remains self.old) ≡ result.now ∷ more_fields (remains self.new) }
         ensures keeps_next_line { after 10 (remains self.new) ≡ after 10 (remains self.old) }
     {
-        let bytes = self.bytes;
-        let start = self.at;
-        let end = field_end(bytes, start);
-        self.at = end;
-        &bytes[start..end]
-    }
-
-    // The next field of the line, where there is one; else the walk stays.
-    pub fn next(&mut self) -> Option<&'a [u8]>
-        ensures yields_next_field { MatchOption result (NoField (remains self.old) (remains self.new)) (λ f. NextField (remains self.old) f.now (remains self.new)) }
-        ensures leaves_the_others { more_fields (remains self.new) ≡ drop 1 (more_fields (remains self.old)) }
-        ensures keeps_next_line { after 10 (remains self.new) ≡ after 10 (remains self.old) }
-    {
-        if !is_tab(self.bytes, self.at) {
-            return None;
-        }
-        self.at += 1;
-        Some(self.first())
+        let rest = self.rest();
+        let (field, _) = rest.split_at(field_len(rest));
+        self.at += field.len();
+        field
     }
 
     // How many fields follow in the line.
+    #[tactic(auto, using(crate::proofs::Walking::more_count))]
     pub fn left(&self) -> usize
         ensures counts_fields { result ≡ length (more_fields (remains self.now)) }
     {
-        if !is_tab(self.bytes, self.at) {
-            return 0;
+        match self.rest() {
+            [b'\t', rest @ ..] => 1 + tabs(rest),
+            _ => 0,
         }
-        fields_from(self.bytes, self.at + 1)
     }
 
     // Goes to the start of the next line.
     pub fn end_line(&mut self)
         ensures leaves_next_lines { remains self.new ≡ after 10 (remains self.old) }
     {
-        self.at = line_end(self.bytes, self.at);
+        self.at += line_len(self.rest());
     }
 
     // All that is left to read.
@@ -133,6 +98,23 @@ impl<'a> Fields<'a> {
     pub fn is_done(&self) -> bool
         ensures tells_end { result ≡ (length (remains self.now) == 0) }
     {
-        is_end(self.bytes, self.at)
+        self.rest().is_empty()
+    }
+}
+
+// The fields that follow in the line; after the last the walk stays.
+impl<'a> Iterator for Fields<'a> {
+    type Item = &'a [u8];
+
+    ghost next_gives = { GivesNext };
+
+    ghost remaining = { item_count (λ w. more_fields (remains w)) };
+
+    fn next(&mut self) -> Option<&'a [u8]> {
+        let [b'\t', ..] = self.rest() else {
+            return None;
+        };
+        self.at += 1;
+        Some(self.first())
     }
 }

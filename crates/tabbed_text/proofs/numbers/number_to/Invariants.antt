@@ -1,9 +1,0 @@
-use Rattle.std.proofs.Common.{◌≡◌, ◌≤◌, drop}
-use Rattle.tabbed_text.specs.Numbers.{value_from, value, all_digits}
-use Rattle.tabbed_text.proofs.numbers.number_to.Given as goal
-
-abbrev pub invariant-loop-b : goal.invariant-loop-b
-invariant-loop-b l =
-    (value_from l.n (drop l.b-index l.bytes) ≡ value l.bytes)
-    × (all_digits (drop l.b-index l.bytes) ≡ all_digits l.bytes)
-    × (l.n ≤ l.high)
