@@ -4,9 +4,9 @@ use Rattle.std.proofs.Common.{◌≡◌, ℕ, zero, suc, ◌+◌, ◌-◌, ◌^�
 use lib.Bits.{bit_or}
 use lib.Count.{ones}
 use lib.ListN.{length-map}
-use Rattle.std.specs.List.{ContainsAt as Has, AllByRecursion as All}
+use Rattle.std.specs.List.{All}
 use Rattle.std.specs.Option.{ok_or}
-use Rattle.std.proofs.ByRecursion.{All-weaker, all-has, all_has_itself, All-from_get_or, All-map}
+use Rattle.std.proofs.lemmas.List.Elements.{All-nil, All-cons, All-head, All-tail, All-map, All-contains, All-from_recursion, Contains-get_or}
 use Rattle.std.proofs.lemmas.List.{get_or_at, get_or-append-add}
 use Rattle.std.proofs.lemmas.Bool.{and_parts, and_from, or_parts, or_from, both_ways, cond-true, cond-false, le-leb, lt-leb, leb-true, ltb-true, eq-eqb, ne_eqb, not-true, cases_lt}
 use Rattle.tree.specs.Names.{name_bytes, same_name, name_ok, name_of, well_named, spelled}
@@ -122,68 +122,85 @@ abbrev gathering : ℕ → List ℕ → ℕ
 gathering set [] = set
 gathering set (c ∷ cs) = gathering (bit_or set (2 ^ c)) cs
 
+-- what can hold of a line: that it is not in the set, that it is, that it is another, and that it is one of the first n
+abbrev New : ℕ → ℕ → Type 0
+New set c = has set c ≡ false
+
+abbrev In : ℕ → ℕ → Type 0
+In set c = has set c ≡ true
+
+abbrev Other : ℕ → ℕ → Type 0
+Other c d = d ≡ c → ⊥
+
+abbrev Under : ℕ → ℕ → Type 0
+Under n c = c < n
+
 -- none of the list comes again after it
 abbrev Apart : List ℕ → Type 0
 Apart [] = Unit {0}
-Apart (c ∷ cs) = All (λ d. d ≡ c → ⊥) cs × Apart cs
+Apart (c ∷ cs) = All (Other c) cs × Apart cs
 
 apart_from : (cs : List ℕ) → ((i j c : ℕ) → i < j → j < length cs → get_or cs i c ≡ get_or cs j c → ⊥) → Apart cs
 apart_from [] once = tt
 apart_from (c ∷ cs) once = (
-  All-from_get_or (λ d. d ≡ c → ⊥) cs 0 (λ j h e. once 0 (suc j) 0 (omega arith) (omega arith) (sym e)),
+  λ j d h e. once 0 (suc j) d (omega arith) (omega arith) (sym e),
   apart_from cs (λ i j d lt h. once (suc i) (suc j) d (omega arith) (omega arith)),
 )
 
-still_new : (set c : ℕ) (cs : List ℕ) → All (λ d. has set d ≡ false) cs → All (λ d. d ≡ c → ⊥) cs → All (λ d. has (bit_or set (2 ^ c)) d ≡ false) cs
-still_new set c [] new other = tt
-still_new set c (d ∷ cs) new other = (
-  has_or set (2 ^ c) d ∙ or_from (has set d) (has (2 ^ c) d) new.0 (has_pow c d ∙ ne_eqb d c other.0),
-  still_new set c cs new.1 other.1,
-)
+still_new : (set c : ℕ) (cs : List ℕ) → All (New set) cs → All (Other c) cs → All (New (bit_or set (2 ^ c))) cs
+still_new set c cs new other k d h =
+    let e = get_or cs k d in
+    has_or set (2 ^ c) e ∙ or_from (has set e) (has (2 ^ c) e) (new k d h) (has_pow c e ∙ ne_eqb e c (other k d h))
 
-children_found : (line field : ℕ) (above : List Row) (set : ℕ) (cs : List ℕ) → names_ok (names_of above) ≡ true → All (λ c. c < length above) cs
-    → All (λ c. has set c ≡ false) cs → Apart cs → children line field above set (fields_at above cs) ≡ Ok (gathering set cs)
+children_found : (line field : ℕ) (above : List Row) (set : ℕ) (cs : List ℕ) → names_ok (names_of above) ≡ true → All (Under (length above)) cs
+    → All (New set) cs → Apart cs → children line field above set (fields_at above cs) ≡ Ok (gathering set cs)
 children_found line field above set [] ok low new apart = refl
 children_found line field above set (c ∷ cs) ok low new apart =
+    let under = All-head (Under (length above)) c cs low in
+    let fresh = All-head (New set) c cs new in
     goes (child_field line field set (line_named above (name_from (spelled_at above c)))) _ c
-    (ap (child_field line field set) (line_found above c low.0 ok) ∙ cond-false (has set c) _ (Ok c) new.0)
-    ∙ children_found line (suc field) above (bit_or set (2 ^ c)) cs ok low.1 (still_new set c cs new.1 apart.0) apart.1
+    (ap (child_field line field set) (line_found above c under ok) ∙ cond-false (has set c) _ (Ok c) fresh)
+    ∙ children_found line (suc field) above (bit_or set (2 ^ c)) cs ok (All-tail (Under (length above)) c cs low)
+    (still_new set c cs (All-tail (New set) c cs new) apart.0) apart.1
 
 before_in : (set : ℕ) (cs : List ℕ) → set ⊆ gathering set cs
 before_in set [] i h = h
 before_in set (c ∷ cs) i h = before_in (bit_or set (2 ^ c)) cs i (in_left set (2 ^ c) i h)
 
-all_in : (set : ℕ) (cs : List ℕ) → All (λ c. has (gathering set cs) c ≡ true) cs
-all_in set [] = tt
-all_in set (c ∷ cs) = (before_in (bit_or set (2 ^ c)) cs c (in_right set (2 ^ c) c (has_one c)), all_in (bit_or set (2 ^ c)) cs)
+all_in : (set : ℕ) (cs : List ℕ) → All (In (gathering set cs)) cs
+all_in set [] = All-nil (In set)
+all_in set (c ∷ cs) =
+    let more = bit_or set (2 ^ c) in
+    All-cons (In (gathering more cs)) c cs (before_in more cs c (in_right set (2 ^ c) c (has_one c))) (all_in more cs)
 
-only_in : (t set : ℕ) (cs : List ℕ) → set ⊆ t → All (λ c. has t c ≡ true) cs → gathering set cs ⊆ t
+only_in : (t set : ℕ) (cs : List ℕ) → set ⊆ t → All (In t) cs → gathering set cs ⊆ t
 only_in t set [] sub h = sub
 only_in t set (c ∷ cs) sub h =
     only_in t (bit_or set (2 ^ c)) cs
-    (λ i e. ⊎_elim (λ p. sub i p) (λ p. subst (λ k. has t k ≡ true) (sym (only_one c i p)) h.0) (or_in set (2 ^ c) i e)) h.1
+    (λ i e. ⊎_elim (λ p. sub i p) (λ p. subst (In t) (sym (only_one c i p)) (All-head (In t) c cs h)) (or_in set (2 ^ c) i e))
+    (All-tail (In t) c cs h)
 
 -- ---- the children of a gate
 
 module _ (above : List Row) (cs : List ℕ) (set : ℕ) (names : names_ok (names_of above) ≡ true) (low : set < 2 ^ length above) (lists : Lists cs set) where
-  members : All (λ c. has set c ≡ true) cs
-  members = All-weaker (Has cs) (λ c. has set c ≡ true) lists.only cs (all_has_itself cs)
+  members : All (In set) cs
+  members k d h = lists.only (get_or cs k d) (Contains-get_or cs k d h)
 
   gathering_is : gathering 0 cs ≡ set
   gathering_is =
       same_lines (gathering 0 cs) set (only_in set 0 cs (λ i h. none_in (has set i ≡ true) i h) members)
-      (λ i h. all-has (λ c. has (gathering 0 cs) c ≡ true) cs i (all_in 0 cs) (lists.every i h))
+      (λ i h. All-contains (In (gathering 0 cs)) cs i (all_in 0 cs) (lists.every i h))
 
   under : (c : ℕ) → has set c ≡ true → c < length above
   under c h = ⊎_elim (λ lt. lt) (λ le. absurd (both_ways (has set c) (has_past (length above) set c low le) h)) (cases_lt c (length above))
 
-  all_under : All (λ c. c < length above) cs
-  all_under = All-weaker (λ c. has set c ≡ true) (λ c. c < length above) under cs members
+  all_under : All (Under (length above)) cs
+  all_under k d h = under (get_or cs k d) (members k d h)
 
   -- fields with the names of the lines of a set, in any order, are read as the set
   pub children_read : (line field : ℕ) → children line field above 0 (fields_at above cs) ≡ Ok set
   children_read line field =
-      children_found line field above 0 cs names all_under (All-weaker (λ c. has set c ≡ true) (λ c. has 0 c ≡ false) (λ c _. has_none c) cs members) (apart_from cs lists.once)
+      children_found line field above 0 cs names all_under (λ k d h. has_none (get_or cs k d)) (apart_from cs lists.once)
       ∙ ap Ok gathering_is
 
   pub children_count : ones set ≡ length cs
@@ -193,9 +210,19 @@ module _ (above : List Row) (cs : List ℕ) (set : ℕ) (names : names_ok (names
 
 -- ---- one line
 
--- no byte of the fields ends a field
+-- no byte ends a field
+abbrev Inner : ℕ → Type 0
+Inner b = separates b ≡ false
+
 abbrev Unparted : List (List ℕ) → Type 0
 Unparted fs = All (λ f. All (λ b. separates b ≡ false) f) fs
+
+unparted_cons : (f : List ℕ) (fs : List (List ℕ)) → All Inner f → Unparted fs → Unparted (f ∷ fs)
+unparted_cons f fs here more = All-cons (All Inner) f fs here more
+
+four_unparted : (a b c d : List ℕ) → All Inner a → All Inner b → All Inner c → All Inner d → Unparted (a ∷ (b ∷ (c ∷ (d ∷ []))))
+four_unparted a b c d p q r s =
+    unparted_cons a (b ∷ (c ∷ (d ∷ []))) p (unparted_cons b (c ∷ (d ∷ [])) q (unparted_cons c (d ∷ []) r (unparted_cons d [] s (All-nil (All Inner)))))
 
 -- the fields are cut apart again, and are read as the row
 record Good (above : List Row) (r : Row) (fs : List (List ℕ)) : Type 0 where
@@ -203,8 +230,8 @@ record Good (above : List Row) (r : Row) (fs : List (List ℕ)) : Type 0 where
   unparted : Unparted fs
   reads : (line : ℕ) → record_of line above fs ≡ Ok r
 
-well_unparted : (bs : List ℕ) → well_named bs ≡ true → All (λ b. separates b ≡ false) bs
-well_unparted bs e = name_unparted bs (and_parts (leb 1 (length bs) && leb (length bs) 12) (name_bytes bs) e).1
+well_unparted : (bs : List ℕ) → well_named bs ≡ true → All Inner bs
+well_unparted bs e = All-from_recursion Inner bs (name_unparted bs (and_parts (leb 1 (length bs) && leb (length bs) 12) (name_bytes bs) e).1)
 
 number_read : (low high line field n : ℕ) → high < 2 ^ 64 → low ≤ n → n ≤ high → up (number_field low high line field (decimal n)) ≡ Ok n
 number_read low high line field n small lo hi = ap (λ o. up (ok_or o (field_fault line field NotNumber))) (written_number low high n small lo hi)
@@ -232,7 +259,9 @@ module _ (above : List Row) (r : Row) (kept : line_ok (length above) r.line ≡ 
       → ((line : ℕ) → body line above kind more ≡ Ok r.line) → Good above r (spelled r.name ∷ ((letter ∷ []) ∷ more))
   good letter kind more is cut fields says = record {
     some = omega arith;
-    unparted = (well_unparted (spelled r.name) (spelled_well r.name named), ((cut, tt), fields));
+    unparted =
+        unparted_cons (spelled r.name) ((letter ∷ []) ∷ more) (well_unparted (spelled r.name) (spelled_well r.name named))
+        (unparted_cons (letter ∷ []) more (All-cons Inner letter [] cut (All-nil Inner)) fields);
     reads = λ line.
         goes (ok_or (kind_of (letter ∷ [])) (station_fault line 2 Letter)) _ kind (ap (λ o. ok_or o (station_fault line 2 Letter)) is)
         ∙ goes (up (name_field line (spelled r.name))) _ r.name (ap (λ o. up (ok_or o (field_fault line 1 NotName))) named_read)
@@ -251,7 +280,7 @@ module _ (above : List Row) (r : Row) (kept : line_ok (length above) r.line ≡ 
       let discount = leb-true p.discount 1000 b.1 in
       let price = leb-true p.price 10000000 a.1 in
       good 69 a_kind.Part (part_fields p) refl refl
-      (decimal_unparted p.rarity (omega arith), (decimal_unparted p.class (omega arith), (decimal_unparted p.discount (omega arith), (decimal_unparted p.price (omega arith), tt))))
+      (four_unparted _ _ _ _ (decimal_unparted p.rarity (omega arith)) (decimal_unparted p.class (omega arith)) (decimal_unparted p.discount (omega arith)) (decimal_unparted p.price (omega arith)))
       (λ line.
       goes (up (number_field 0 60000 line 3 (decimal p.rarity))) _ p.rarity (number_read 0 60000 line 3 p.rarity (omega arith) (omega arith) rarity)
       ∙ goes (up (number_field 0 9 line 4 (decimal p.class))) _ p.class (number_read 0 9 line 4 p.class (omega arith) (omega arith) class)
@@ -271,9 +300,8 @@ module _ (above : List Row) (r : Row) (kept : line_ok (length above) r.line ≡ 
 
     cut : Unparted (fields_at above cs)
     cut =
-        All-map (λ f. All (λ b. separates b ≡ false) f) (spelled_at above) cs
-        (All-weaker (λ c. c < length above) (λ c. All (λ b. separates b ≡ false) (spelled_at above c)) (λ c h. well_unparted (spelled_at above c) (well_at above c h names)) cs
-        (all_under above cs set names rules.0 lists))
+        All-map (All Inner) (spelled_at above) cs
+        (λ k d h. let c = get_or cs k d in well_unparted (spelled_at above c) (well_at above c (all_under above cs set names rules.0 lists k d h) names))
 
     within : (low high : ℕ) (fs : List (List ℕ)) → low ≤ length fs → length fs ≤ high → (leb low (length fs) && leb (length fs) high) ≡ true
     within low high fs lo hi = and_from _ _ (le-leb low (length fs) lo) (le-leb (length fs) high hi)
@@ -297,7 +325,7 @@ module _ (above : List Row) (r : Row) (kept : line_ok (length above) r.line ≡ 
     vote_good : Good above r (spelled r.name ∷ ((86 ∷ []) ∷ (decimal need ∷ fields_at above cs)))
     vote_good =
         let n = rules.2 (omega (arith, count)) in
-        good 86 a_kind.AtLeast (decimal need ∷ fields_at above cs) refl refl (decimal_unparted need (omega (arith, rules.1, n.1)), cut)
+        good 86 a_kind.AtLeast (decimal need ∷ fields_at above cs) refl refl (unparted_cons (decimal need) (fields_at above cs) (decimal_unparted need (omega (arith, rules.1, n.1))) cut)
         (λ line.
         cond-true _ _ _ (within 2 13 (decimal need ∷ fields_at above cs) (omega (arith, size)) (omega (arith, size, count, rules.1)))
         ∙ goes (up (number_field 1 (length (fields_at above cs)) line 3 (decimal need))) _ need
@@ -305,10 +333,10 @@ module _ (above : List Row) (r : Row) (kept : line_ok (length above) r.line ≡ 
         ∙ then_gate line 4 need refl)
 
   always_good : r.line ≡ gate 0 0 → Good above r (spelled r.name ∷ ((84 ∷ []) ∷ []))
-  always_good is = good 84 a_kind.Always [] refl refl tt (λ line. ap Ok (sym is))
+  always_good is = good 84 a_kind.Always [] refl refl (All-nil (All Inner)) (λ line. ap Ok (sym is))
 
   never_good : r.line ≡ gate 0 1 → Good above r (spelled r.name ∷ ((70 ∷ []) ∷ []))
-  never_good is = good 70 a_kind.Never [] refl refl tt (λ line. ap Ok (sym is))
+  never_good is = good 70 a_kind.Never [] refl refl (All-nil (All Inner)) (λ line. ap Ok (sym is))
 
   said : (fs : List (List ℕ)) → Says above r fs → Good above r fs
   said fs (part p is e) = subst (Good above r) (sym e) (part_good p is)

@@ -1,8 +1,8 @@
 -- A file that is read describes the rows that it gives: each of its lines says its row.
-use Rattle.std.proofs.Common.{◌≡◌, ℕ, zero, suc, ◌+◌, ◌-◌, ◌^◌, ◌<◌, ◌≤◌, Bool, true, false, cond, ◌&&◌, eqb, leb, ◌⊎◌, List, [], ◌∷◌, ◌++◌, map, length, get_or, drop, is_some, Some, None, Ok, Err, decimal, Option, Result, sym, refl, ap, ◌∙◌, subst, ap₂, inl, inr, ⊎_elim, arith}
+use Rattle.std.proofs.Common.{◌≡◌, ℕ, zero, suc, ◌+◌, ◌-◌, ◌^◌, ◌<◌, ◌≤◌, Bool, true, false, cond, ◌&&◌, eqb, leb, ◌⊎◌, List, [], ◌∷◌, ◌++◌, map, length, get_or, drop, is_some, Some, None, Ok, decimal, sym, refl, ap, ◌∙◌, subst, ap₂, inl, inr, ⊎_elim, arith}
 use lib.Bits.{bit_or}
-use Rattle.std.specs.List.{ContainsAt as Has}
-use Rattle.std.proofs.ByRecursion.{has_get_or}
+use Rattle.std.specs.List.{Contains}
+use Rattle.std.proofs.lemmas.List.Elements.{Contains-get_or}
 use Rattle.std.proofs.lemmas.List.{append-nil, append_assoc, length-map}
 use Rattle.std.proofs.lemmas.Bool.{and_parts, both_ways, eqb-true, leb-true, or_parts}
 use Rattle.tree.specs.Names.{well_named, name_of, name_bytes, same_name, spelled}
@@ -13,7 +13,7 @@ use Rattle.tree.specs.declared.line.Row.{Row}
 use Rattle.tree.proofs.Sets.{has_or, has_none, has_one, only_one, or_in, in_left, in_right}
 use Rattle.tree.proofs.Spelling.{spelled_name}
 use Rattle.tabbed_text.specs.Fields.{pieces, tabbed, lines_of}
-use Rattle.tabbed_text.proofs.Chains.{refused, went, ok_some, cond_some, allowed, not_refused}
+use Rattle.tabbed_text.proofs.Chains.{refused, went, ok_some, cond_some, allowed, not_refused, letter_else}
 use Rattle.tabbed_text.proofs.Numerals.{number_written}
 use Rattle.tabbed_text.proofs.Splitting.{Ends, first_line, lines_split, no_lines, tabbed_pieces}
 use Rattle.station_file.specs.Descriptions.{spelled_at, Lists, Says, part, all_of, any_of, vote_of, always, never, DescribesAfter, Describes}
@@ -21,20 +21,10 @@ use Rattle.station_file.specs.Faults.{up}
 use Rattle.station_file.specs.Files.{read_rows, read_file}
 use Rattle.station_file.specs.Letters.{kind_of}
 use Rattle.station_file.specs.Names.{name_from, first_named, line_named}
-use Rattle.station_file.specs.Records.{kind_field, name_field, new_name, number_field, child_field, children, counted, part_numbers, part_body, all_body, any_body, vote_fields, vote_body, bare_body, body, row_of, record_of}
-use Rattle.station_file.proofs.Keeping.{up_ok}
-use Rattle.station_file.specs.declared.faults.StationFault.{StationFault}
+use Rattle.station_file.specs.Records.{kind_field, name_field, new_name, number_field, child_field, children, part_numbers, part_body, all_body, any_body, vote_fields, vote_body, bare_body, body, row_of, record_of}
+use Rattle.station_file.proofs.Keeping.{up_ok, child_is, counted_ok}
 use Rattle.station_file.specs.declared.letters.Kind.{Kind}
 use Rattle.station_file.specs.declared.letters.Kind.TheVariants.{Part, And, Or, AtLeast, Always, Never}
-
--- ---- questions that were answered well
-
-none_some : {A : Type 0} (a : A) (P : Type 0) → ◌≡◌ {A = Option A} None (Some a) → P
-none_some a P e = let z : ◌≡◌ {A = ℕ} 0 1 = cc in let y : ⊥ = omega arith in absurd y
-
-cond_ok : {A E : Type 0} (b : Bool) (x : E) (n a : A) → ◌≡◌ {A = Result A E} (cond b (Err x) (Ok n)) (Ok a) → (b ≡ false) × (n ≡ a)
-cond_ok true x n a e = refused x a _ e
-cond_ok false x n a e = (refl, cc)
 
 -- ---- letters, numbers and names
 
@@ -46,17 +36,13 @@ letter AtLeast = 86
 letter Always = 84
 letter Never = 70
 
-letter_else : (b : ℕ) (x k : Kind) (rest : Option Kind) (t : Bool) → eqb b (letter x) ≡ t → cond t (Some x) rest ≡ Some k → (rest ≡ Some k → b ≡ letter k) → b ≡ letter k
-letter_else b x k rest true t e more = let is : x ≡ k = cc in eqb-true b (letter x) t ∙ ap letter is
-letter_else b x k rest false t e more = more e
-
 kind_letter : (f : List ℕ) (k : Kind) → kind_of f ≡ Some k → f ≡ letter k ∷ []
-kind_letter [] k e = none_some k _ e
+kind_letter [] k e = cc
 kind_letter (b ∷ []) k e = ap (λ x. x ∷ [])
-    (letter_else b Part k _ (eqb b 69) refl e (λ e. letter_else b And k _ (eqb b 65) refl e (λ e.
-    letter_else b Or k _ (eqb b 79) refl e (λ e. letter_else b AtLeast k _ (eqb b 86) refl e (λ e.
-    letter_else b Always k _ (eqb b 84) refl e (λ e. letter_else b Never k _ (eqb b 70) refl e (λ e. none_some k _ e)))))))
-kind_letter (b ∷ (d ∷ bs)) k e = none_some k _ e
+    (letter_else letter b Part k _ (eqb b 69) refl e (λ e. letter_else letter b And k _ (eqb b 65) refl e (λ e.
+    letter_else letter b Or k _ (eqb b 79) refl e (λ e. letter_else letter b AtLeast k _ (eqb b 86) refl e (λ e.
+    letter_else letter b Always k _ (eqb b 84) refl e (λ e. letter_else letter b Never k _ (eqb b 70) refl e (λ e. cc)))))))
+kind_letter (b ∷ (d ∷ bs)) k e = cc
 
 number_field_says : (low high line field : ℕ) (bs : List ℕ) (n : ℕ) → high < 2 ^ 64 → up (number_field low high line field bs) ≡ Ok n → bs ≡ decimal n
 number_field_says low high line field bs n small e =
@@ -94,7 +80,7 @@ found_cons k r rs n i false t e more =
     record { at = suc m.at; is = omega (arith, m.is); named = m.named }
 
 found : (k : ℕ) (rows : List Row) (n : Name) (i : ℕ) → first_named k rows n ≡ Some i → Found k rows n i
-found k [] n i e = none_some i _ e
+found k [] n i e = cc
 found k (r ∷ rs) n i e = found_cons k r rs n i (same_name r.name n) refl e (found (suc k) rs n i)
 
 named_found : (rows : List Row) (n : Name) (i : ℕ) → first_named 0 rows n ≡ Some i → spelled_at rows i ≡ spelled n
@@ -105,7 +91,7 @@ named_found rows n i e =
 
 named_cond : (rows : List Row) (b : Bool) (n : Name) (i : ℕ) → line_named rows (cond b (Some n) None) ≡ Some i → (b ≡ true) × (first_named 0 rows n ≡ Some i)
 named_cond rows true n i e = (refl, e)
-named_cond rows false n i e = none_some i _ e
+named_cond rows false n i e = cc
 
 line_named_says : (rows : List Row) (f : List ℕ) (i : ℕ) → line_named rows (name_from f) ≡ Some i → spelled_at rows i ≡ f
 line_named_says rows f i e =
@@ -114,28 +100,28 @@ line_named_says rows f i e =
 
 -- ---- children
 
-has_first : (x : ℕ) (xs : List ℕ) → Has (x ∷ xs) x
-has_first x xs = (0, omega arith, λ d. refl)
+has_first : (x : ℕ) (xs : List ℕ) → Contains (x ∷ xs) x
+has_first x xs = (0, omega arith, refl)
 
-has_later : (x c : ℕ) (xs : List ℕ) → Has xs c → Has (x ∷ xs) c
+has_later : (x c : ℕ) (xs : List ℕ) → Contains xs c → Contains (x ∷ xs) c
 has_later x c xs h = (suc h.0, omega (arith, h.1), h.2)
 
-has_cons : (x c : ℕ) (xs : List ℕ) → Has (x ∷ xs) c → (x ≡ c) ⊎ Has xs c
+has_cons : (x c : ℕ) (xs : List ℕ) → Contains (x ∷ xs) c → (x ≡ c) ⊎ Contains xs c
 has_cons x c xs h = go h.0 h.1 h.2
   where
-    go : (k : ℕ) → k < length (x ∷ xs) → ((d : ℕ) → get_or (x ∷ xs) k d ≡ c) → (x ≡ c) ⊎ Has xs c
-    go zero l e = inl (e 0)
+    go : (k : ℕ) → k < length (x ∷ xs) → get_or (x ∷ xs) k c ≡ c → (x ≡ c) ⊎ Contains xs c
+    go zero l e = inl e
     go (suc k) l e = inr (k, omega arith, e)
 
 -- the fields name lines that are not in the set, each once, and `out` is the set with them
 record Named (rows : List Row) (set : ℕ) (fs : List (List ℕ)) (out : ℕ) : Type 0 where
   cs : List ℕ
   named : fs ≡ map (spelled_at rows) cs
-  new : (c : ℕ) → Has cs c → has set c ≡ false
+  new : (c : ℕ) → Contains cs c → has set c ≡ false
   once : (i j c : ℕ) → i < j → j < length cs → get_or cs i c ≡ get_or cs j c → ⊥
   kept : (c : ℕ) → has set c ≡ true → has out c ≡ true
-  only : (c : ℕ) → Has cs c → has out c ≡ true
-  every : (c : ℕ) → has out c ≡ true → (has set c ≡ true) ⊎ Has cs c
+  only : (c : ℕ) → Contains cs c → has out c ≡ true
+  every : (c : ℕ) → has out c ≡ true → (has set c ≡ true) ⊎ Contains cs c
 
 none_named : (rows : List Row) (set : ℕ) → Named rows set [] set
 none_named rows set =
@@ -150,7 +136,7 @@ none_named rows set =
     }
 
 module _ (rows : List Row) (set : ℕ) (f : List ℕ) (fs : List (List ℕ)) (out x : ℕ) (is : spelled_at rows x ≡ f) (fresh : has set x ≡ false) (m : Named rows (bit_or set (2 ^ x)) fs out) where
-  cons_new : (c : ℕ) → Has (x ∷ m.cs) c → has set c ≡ false
+  cons_new : (c : ℕ) → Contains (x ∷ m.cs) c → has set c ≡ false
   cons_new c h =
       ⊎_elim (λ e. subst (λ y. has set y ≡ false) e fresh)
       (λ h. (or_parts (has set c) (has (2 ^ x) c) (sym (has_or set (2 ^ x) c) ∙ m.new c h)).0) (has_cons x c m.cs h)
@@ -158,18 +144,18 @@ module _ (rows : List Row) (set : ℕ) (f : List ℕ) (fs : List (List ℕ)) (ou
   cons_once : (i j c : ℕ) → i < j → j < length (x ∷ m.cs) → get_or (x ∷ m.cs) i c ≡ get_or (x ∷ m.cs) j c → ⊥
   cons_once zero zero c l k e = omega arith
   cons_once zero (suc j) c l k e =
-      let h = has_get_or m.cs j c (omega arith) in
-      both_ways (has (bit_or set (2 ^ x)) x) (m.new x (subst (Has m.cs) (sym e) h)) (in_right set (2 ^ x) x (has_one x))
+      let h = Contains-get_or m.cs j c (omega arith) in
+      both_ways (has (bit_or set (2 ^ x)) x) (m.new x (subst (Contains m.cs) (sym e) h)) (in_right set (2 ^ x) x (has_one x))
   cons_once (suc i) zero c l k e = omega arith
   cons_once (suc i) (suc j) c l k e = m.once i j c (omega arith) (omega arith) e
 
-  cons_only : (c : ℕ) → Has (x ∷ m.cs) c → has out c ≡ true
+  cons_only : (c : ℕ) → Contains (x ∷ m.cs) c → has out c ≡ true
   cons_only c h =
       ⊎_elim (λ e. subst (λ y. has out y ≡ true) e (m.kept x (in_right set (2 ^ x) x (has_one x)))) (m.only c) (has_cons x c m.cs h)
 
-  cons_every : (c : ℕ) → has out c ≡ true → (has set c ≡ true) ⊎ Has (x ∷ m.cs) c
+  cons_every : (c : ℕ) → has out c ≡ true → (has set c ≡ true) ⊎ Contains (x ∷ m.cs) c
   cons_every c e =
-      ⊎_elim (λ h. ⊎_elim (λ s. inl s) (λ p. inr (subst (Has (x ∷ m.cs)) (sym (only_one x c p)) (has_first x m.cs))) (or_in set (2 ^ x) c h))
+      ⊎_elim (λ h. ⊎_elim (λ s. inl s) (λ p. inr (subst (Contains (x ∷ m.cs)) (sym (only_one x c p)) (has_first x m.cs))) (or_in set (2 ^ x) c h))
       (λ h. inr (has_later x c m.cs h)) (m.every c e)
 
   named_cons : Named rows set (f ∷ fs) out
@@ -184,17 +170,11 @@ module _ (rows : List Row) (set : ℕ) (f : List ℕ) (fs : List (List ℕ)) (ou
         every = cons_every;
       }
 
-child_says : (line field set : ℕ) (o : Option ℕ) (i : ℕ) → child_field line field set o ≡ Ok i → (o ≡ Some i) × (has set i ≡ false)
-child_says line field set None i e = refused _ i _ e
-child_says line field set (Some j) i e =
-    let c = cond_ok (has set j) _ j i e in
-    (ap Some c.1, subst (λ x. has set x ≡ false) c.1 c.0)
-
 children_say : (line field : ℕ) (rows : List Row) (set : ℕ) (fs : List (List ℕ)) (out : ℕ) → children line field rows set fs ≡ Ok out → Named rows set fs out
 children_say line field rows set [] out e = let is : set ≡ out = cc in subst (Named rows set []) is (none_named rows set)
 children_say line field rows set (f ∷ fs) out e =
     let w = went (child_field line field set (line_named rows (name_from f))) _ out e in
-    let c = child_says line field set (line_named rows (name_from f)) w.first w.was in
+    let c = child_is line field set (line_named rows (name_from f)) w.first w.was in
     named_cons rows set f fs out w.first (line_named_says rows f w.first c.0) c.1
     (children_say line (suc field) rows (bit_or set (2 ^ w.first)) fs out w.next)
 
@@ -221,12 +201,6 @@ children_list line field rows fs out e =
     }
 
 -- ---- records
-
-counted_is : (low high line : ℕ) (fs : List (List ℕ)) (k : Result Line StationFault) (l : Line) → counted low high line fs k ≡ Ok l → (low ≤ length fs) × (length fs ≤ high) × (k ≡ Ok l)
-counted_is low high line fs k l e =
-    let c = allowed (leb low (length fs) && leb (length fs) high) _ k l e in
-    let p = and_parts (leb low (length fs)) (leb (length fs) high) c.0 in
-    (leb-true low (length fs) p.0, leb-true (length fs) high p.1, c.1)
 
 module _ (line : ℕ) (rows : List Row) (n : Name) where
   abbrev row : Line → Row
@@ -257,14 +231,14 @@ module _ (line : ℕ) (rows : List Row) (n : Name) where
 
   all_body_says : (fs : List (List ℕ)) (l : Line) → all_body line rows fs ≡ Ok l → Said And fs l
   all_body_says fs l e =
-      let c = counted_is 1 12 line fs _ l e in
+      let c = counted_ok 1 12 line fs _ l e in
       let w = went (children line 3 rows 0 fs) _ l c.2 in
       let m = children_list line 3 rows fs w.first w.was in
       all_of m.cs w.first (omega (arith, c.0)) m.lists (cc (w.next, m.count)) (ap (λ gs. spelled n ∷ ((65 ∷ []) ∷ gs)) m.named)
 
   any_body_says : (fs : List (List ℕ)) (l : Line) → any_body line rows fs ≡ Ok l → Said Or fs l
   any_body_says fs l e =
-      let c = counted_is 1 12 line fs _ l e in
+      let c = counted_ok 1 12 line fs _ l e in
       let w = went (children line 3 rows 0 fs) _ l c.2 in
       let m = children_list line 3 rows fs w.first w.was in
       any_of m.cs w.first (omega (arith, c.0)) m.lists (cc w.next) (ap (λ gs. spelled n ∷ ((79 ∷ []) ∷ gs)) m.named)
@@ -280,7 +254,7 @@ module _ (line : ℕ) (rows : List Row) (n : Name) where
 
   vote_body_says : (fs : List (List ℕ)) (l : Line) → vote_body line rows fs ≡ Ok l → Said AtLeast fs l
   vote_body_says fs l e =
-      let c = counted_is 2 13 line fs _ l e in
+      let c = counted_ok 2 13 line fs _ l e in
       vote_fields_says fs l c.0 c.1 c.2
 
   always_says : (fs : List (List ℕ)) (l : Line) → bare_body line 0 fs ≡ Ok l → Said Always fs l
@@ -309,7 +283,7 @@ row_says line rows first others r e =
     let w₂ = went (up (name_field line first)) _ r w₁.next in
     let w₃ = went (new_name line rows w₂.first) _ r w₂.next in
     let w₄ = went (body line rows w₁.first (drop 1 others)) _ r w₃.next in
-    let fresh = (cond_ok (is_some (first_named 0 rows w₂.first)) _ w₂.first w₃.first w₃.was).1 in
+    let fresh : w₂.first ≡ w₃.first = cc (not_refused (is_some (first_named 0 rows w₂.first)) _ (Ok w₂.first) w₃.first w₃.was).1 in
     let named = name_field_says line first w₂.first w₂.was in
     let kind = kind_field_says line others w₁.first w₁.was in
     let said = body_says line rows w₃.first w₁.first (drop 1 others) w₄.first w₄.was in

@@ -5,6 +5,7 @@ use lib.Count.{ones}
 use lib.ListN.{length-map}
 use Rattle.std.proofs.lemmas.Bool.{and_parts, and_from, or_parts, or_from, cond_both, cond-false, lt-ltb, le-leb, leb-true, leb-false, eqb-true, ne_eqb, not_from_false, not-true, both_ways}
 use Rattle.std.proofs.lemmas.List.{map_push}
+use Rattle.std.specs.List.{onto_first}
 use Rattle.tree.specs.Names.{same_name, name_ok, name_of, well_named}
 use Rattle.tree.specs.Sets.{has, Below}
 use Rattle.tree.specs.Rules.{line_ok, lines_ok, among, names_ok, names_of, keeps_rules}
@@ -14,7 +15,7 @@ use Rattle.tree.specs.declared.line.Name.{Name}
 use Rattle.tree.specs.declared.line.Row.{Row}
 use Rattle.tree.proofs.Sets.{has_none, only_one, or_in, one_more, ones_none, below_lt}
 use Rattle.tree.proofs.Spelling.{same_sym, name_spelled_ok}
-use Rattle.tabbed_text.specs.Fields.{prepend, pieces, ended, lines_of}
+use Rattle.tabbed_text.specs.Fields.{pieces, ended, lines_of}
 use Rattle.tabbed_text.specs.Numbers.{numeral, value, number_in}
 use Rattle.tabbed_text.specs.Questions.{then}
 use Rattle.tabbed_text.proofs.Chains.{refused, went, ok_some, cond_some, not_refused, allowed}
@@ -68,16 +69,16 @@ part_body_ok line (r ∷ (c ∷ (d ∷ (p ∷ (x ∷ xs))))) l i e = refused _ l
 -- ---- children
 
 first_low : (j : ℕ) (rows : List Row) (n : Name) (i : ℕ) → first_named j rows n ≡ Some i → i < j + length rows
-first_low j [] n i e = let z : ◌≡◌ {A = ℕ} 0 1 = cc in let y : ⊥ = omega arith in absurd y
+first_low j [] n i e = cc
 first_low j (r ∷ rs) n i e =
     cond_both (same_name r.name n) (Some j) (first_named (suc j) rs n) (λ o. o ≡ Some i → i < j + suc (length rs))
     (λ _ f. let p : j ≡ i = cc in omega arith) (λ _ f. omega (arith, first_low (suc j) rs n i f)) e
 
 line_low : (rows : List Row) (o : Option Name) (i : ℕ) → line_named rows o ≡ Some i → i < length rows
-line_low rows None i e = let z : ◌≡◌ {A = ℕ} 0 1 = cc in let y : ⊥ = omega arith in absurd y
+line_low rows None i e = cc
 line_low rows (Some n) i e = omega (arith, first_low 0 rows n i e)
 
-child_is : (line field set : ℕ) (o : Option ℕ) (i : ℕ) → child_field line field set o ≡ Ok i → (o ≡ Some i) × (has set i ≡ false)
+pub child_is : (line field set : ℕ) (o : Option ℕ) (i : ℕ) → child_field line field set o ≡ Ok i → (o ≡ Some i) × (has set i ≡ false)
 child_is line field set None i e = refused _ i _ e
 child_is line field set (Some j) i e =
     let p = not_refused (has set j) _ (Ok j) i e in
@@ -126,7 +127,7 @@ children_kept line field need rows fs l e few some high =
     let count : ones w.first ≡ length fs = omega (arith, k.1, ones_none) in
     subst (λ x. line_ok (length rows) x ≡ true) is (gate_kept (length rows) w.first need k.0 (omega arith) some (omega arith))
 
-counted_ok : (low high line : ℕ) (fs : List (List ℕ)) (k : Result Line StationFault) (l : Line) → counted low high line fs k ≡ Ok l
+pub counted_ok : (low high line : ℕ) (fs : List (List ℕ)) (k : Result Line StationFault) (l : Line) → counted low high line fs k ≡ Ok l
     → (low ≤ length fs) × (length fs ≤ high) × (k ≡ Ok l)
 counted_ok low high line fs k l e =
     let p = allowed (leb low (length fs) && leb (length fs) high) _ k l e in
@@ -245,15 +246,15 @@ rows_ok rows (fs ∷ ls) out so few e =
 
 -- ---- the file
 
-prepend_some : (b : ℕ) (ps : List (List ℕ)) → 0 < length (prepend b ps)
-prepend_some b [] = omega arith
-prepend_some b (p ∷ ps) = omega arith
+onto_some : (b : ℕ) (ps : List (List ℕ)) → 0 < length (onto_first b ps)
+onto_some b [] = omega arith
+onto_some b (p ∷ ps) = omega arith
 
 lines_some : (bs : List ℕ) → 0 < length bs → 0 < length (lines_of bs)
 lines_some [] some = let z : ⊥ = omega arith in absurd z
 lines_some (b ∷ bs) some =
-    cond_both (eqb b 10) ([] ∷ ended 10 bs) (prepend b (ended 10 bs)) (λ ps. 0 < length (map (pieces 9) ps))
-    (λ _. omega arith) (λ _. omega (arith, length-map (prepend b (ended 10 bs)) (pieces 9), prepend_some b (ended 10 bs)))
+    cond_both (eqb b 10) ([] ∷ ended 10 bs) (onto_first b (ended 10 bs)) (λ ps. 0 < length (map (pieces 9) ps))
+    (λ _. omega arith) (λ _. omega (arith, length-map (onto_first b (ended 10 bs)) (pieces 9), onto_some b (ended 10 bs)))
 
 -- a file that is read has 1 to 16,384 bytes, the last is 10, and its lines are read
 pub file_lines : (bs : List ℕ) (out : List Row) → read_file bs ≡ Ok out

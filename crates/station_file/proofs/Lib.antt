@@ -1,5 +1,5 @@
 pub mod NameWords
-pub mod Places
+pub mod Reading
 pub mod FileReads
 pub mod Keeping
 pub mod Describing

@@ -1,7 +1,7 @@
 -- What a station file looks like from the side of one who writes it: a line for each line of the tree, in their order;
 -- each line is its fields with single tabs between them, and ends with byte 10.
 use Rattle.std.specs.Prelude.{◌≡◌, ℕ, zero, suc, ◌<◌, ◌≤◌, true, List, [], ◌∷◌, ◌++◌, map, length, Ok, Err, codes, decimal, Result, ◌≢◌, slice_index_or}
-use Rattle.std.specs.List.{ContainsAt as Has}
+use Rattle.std.specs.List.{Contains}
 use Rattle.tree.specs.Names.{spelled}
 use Rattle.tree.specs.Rules.{keeps_rules}
 use Rattle.tree.specs.Sets.{has}
@@ -21,8 +21,8 @@ spelled_at (r ∷ rs) (suc i) = spelled_at rs i
 -- the list has each line of the set once, in any order, and no other
 pub record Lists (cs : List ℕ) (set : ℕ) : Type 0 where
   pub once : (i j c : ℕ) → i < j → j < length cs → slice_index_or cs i c ≢ slice_index_or cs j c
-  pub only : (c : ℕ) → Has cs c → has set c ≡ true
-  pub every : (c : ℕ) → has set c ≡ true → Has cs c
+  pub only : (c : ℕ) → Contains cs c → has set c ≡ true
+  pub every : (c : ℕ) → has set c ≡ true → Contains cs c
 
 -- the four numbers of a part
 abbrev pub part_fields : Part → List (List ℕ)

@@ -55,6 +55,11 @@ gate set need = a_line.Gate (record { children = set; need = need })
 abbrev pub counted : {A : Type 0} → ℕ → ℕ → ℕ → List (List ℕ) → Result A StationFault → Result A StationFault
 counted low high line fs k = cond (nat_le low (length fs) && nat_le (length fs) high) k (Err (station_fault line 0 FieldCount))
 
+-- the number that the next field says
+abbrev pub next_number : ℕ → ℕ → ℕ → ℕ → List (List ℕ) → Result ℕ StationFault
+next_number low high line field [] = Err (station_fault line 0 FieldCount)
+next_number low high line field (f ∷ fs) = up (number_field low high line field f)
+
 abbrev pub part_numbers : ℕ → List ℕ → List ℕ → List ℕ → List ℕ → Result Line StationFault
 part_numbers line r c d p =
     then (up (number_field 0 60000 line 3 r)) (λ rarity.
@@ -72,21 +77,24 @@ part_body line (r ∷ (c ∷ (d ∷ []))) = Err (station_fault line 0 FieldCount
 part_body line (r ∷ (c ∷ (d ∷ (p ∷ [])))) = part_numbers line r c d p
 part_body line (r ∷ (c ∷ (d ∷ (p ∷ (x ∷ xs))))) = Err (station_fault line 0 FieldCount)
 
+-- the gate with that need over the children that the fields name
+abbrev pub gate_of : ℕ → ℕ → List Row → ℕ → List (List ℕ) → Result Line StationFault
+gate_of line field rows need fs = then (children line field rows 0 fs) (λ set. Ok (gate set need))
+
 -- A needs all its children, O one of them: 3 to 14 fields in all
 abbrev pub all_body : ℕ → List Row → List (List ℕ) → Result Line StationFault
 all_body line rows fs =
-    counted 1 12 line fs (then (children line 3 rows 0 fs) (λ set. Ok (gate set (length fs))))
+    counted 1 12 line fs (gate_of line 3 rows (length fs) fs)
 
 abbrev pub any_body : ℕ → List Row → List (List ℕ) → Result Line StationFault
-any_body line rows fs = counted 1 12 line fs (then (children line 3 rows 0 fs) (λ set. Ok (gate set 1)))
+any_body line rows fs = counted 1 12 line fs (gate_of line 3 rows 1 fs)
 
 -- V: a need, which is 1 to the number of the children's fields, and then the children, 4 to 15 fields in all
 abbrev pub vote_fields : ℕ → List Row → List (List ℕ) → Result Line StationFault
 vote_fields line rows [] = Err (station_fault line 0 FieldCount)
 vote_fields line rows (n ∷ fs) =
     then (up (number_field 1 (length fs) line 3 n)) (λ need.
-    then (children line 4 rows 0 fs) (λ set.
-    Ok (gate set need)))
+    gate_of line 4 rows need fs)
 
 abbrev pub vote_body : ℕ → List Row → List (List ℕ) → Result Line StationFault
 vote_body line rows fs = counted 2 13 line fs (vote_fields line rows fs)

@@ -1,8 +1,10 @@
 // The letter of a record.
-ghost use Rattle.std.specs.Prelude.{◌≡◌};
-ghost use Rattle.station_file.specs.Letters.{kind_of};
+ghost use Rattle.std.specs.Prelude.{◌≡◌, ◌&&◌, nat_le};
+ghost use Rattle.station_file.specs.Letters.{kind_of, Letters, has_count};
 
-#[derive(Clone, Copy)]
+use tabbed_text::letters::{UnknownLetter, letter};
+
+#[derive(Clone, Copy, PartialEq, Eq)]
 pub enum Kind {
     Part,
     And,
@@ -12,20 +14,41 @@ pub enum Kind {
     Never,
 }
 
+impl TryFrom<char> for Kind {
+    type Error = UnknownLetter;
+
+    ghost try_from_gives = { Letters };
+
+    fn try_from(letter: char) -> Result<Kind, UnknownLetter> {
+        match letter {
+            'E' => Ok(Kind::Part),
+            'A' => Ok(Kind::And),
+            'O' => Ok(Kind::Or),
+            'V' => Ok(Kind::AtLeast),
+            'T' => Ok(Kind::Always),
+            'F' => Ok(Kind::Never),
+            _ => Err(UnknownLetter),
+        }
+    }
+}
+
+impl Kind {
+    // Whether a record of that kind has so many fields after its letter.
+    pub fn has(self, count: usize) -> bool
+        ensures { result ≡ has_count self count }
+    {
+        match self {
+            Kind::Part => count == 4,
+            Kind::And | Kind::Or => (1..=12).contains(&count),
+            Kind::AtLeast => (2..=13).contains(&count),
+            Kind::Always | Kind::Never => count == 0,
+        }
+    }
+}
+
 // The kind of record that a second field says.
 pub fn record_kind(field: &[u8]) -> Option<Kind>
     ensures { result ≡ kind_of field.now }
 {
-    let [letter] = field else {
-        return None;
-    };
-    match *letter as char {
-        'E' => Some(Kind::Part),
-        'A' => Some(Kind::And),
-        'O' => Some(Kind::Or),
-        'V' => Some(Kind::AtLeast),
-        'T' => Some(Kind::Always),
-        'F' => Some(Kind::Never),
-        _ => None,
-    }
+    Kind::try_from(letter(field)?).ok()
 }

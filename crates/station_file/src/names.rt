@@ -1,6 +1,7 @@
 // Names in the bytes of a field.
 ghost use Rattle.std.specs.Prelude.{◌≡◌, ◌≤◌, length};
-ghost use Rattle.tree.specs.Names.{packed, name_byte, name_bytes, well_named};
+ghost use Rattle.std.specs.List.{list_all};
+ghost use Rattle.tree.specs.Names.{packed, name_byte, well_named};
 ghost use Rattle.station_file.specs.Names.{name_from};
 
 use tree::line::Name;
@@ -12,50 +13,42 @@ fn is_name_byte(b: u8) -> bool
 }
 
 fn all_name_bytes(bytes: &[u8]) -> bool
-    ensures { result ≡ name_bytes bytes.now }
+    ensures { result ≡ list_all name_byte bytes.now }
 {
-    for b in bytes {
-        if !is_name_byte(*b) {
-            return false;
-        }
-    }
-    true
+    bytes.iter().all(|b| is_name_byte(*b))
 }
 
+#[tactic(auto, using(crate::proofs::NameWords::names_all))]
 fn is_name(bytes: &[u8]) -> bool
     ensures { result ≡ well_named bytes.now }
 {
-    bytes.len() >= 1 && bytes.len() <= 12 && all_name_bytes(bytes)
+    (1..=12).contains(&bytes.len()) && all_name_bytes(bytes)
 }
 
 // Up to eight bytes as one word, the first lowest.
+#[tactic(auto, using(crate::proofs::NameWords::word_filled))]
 fn word_of(bytes: &[u8]) -> u64
     requires { length bytes.now ≤ 8 }
     ensures { result ≡ packed bytes.now }
 {
-    let mut word = 0;
-    let mut i = bytes.len();
-    while i > 0 {
-        i -= 1;
-        let b = bytes[i];
-        word = 256 * word + b as u64;
-    }
-    word
+    let mut word = [0; 8];
+    word[..bytes.len()].copy_from_slice(bytes);
+    u64::from_le_bytes(word)
 }
 
 // The name, where the bytes are one.
+#[tactic(auto, using(crate::proofs::NameWords::take_min, crate::proofs::NameWords::drop_min, crate::proofs::NameWords::a_name))]
 pub fn name_of(bytes: &[u8]) -> Option<Name>
     ensures { result ≡ name_from bytes.now }
 {
     if !is_name(bytes) {
         return None;
     }
-    let n = bytes.len();
-    let cut = n.min(8);
-    let (head, tail) = bytes.split_at(cut);
+    let len = bytes.len();
+    let (head, tail) = bytes.split_at(len.min(8));
     Some(Name {
         head: word_of(head),
         tail: word_of(tail),
-        len: n as u8,
+        len: len as u8,
     })
 }

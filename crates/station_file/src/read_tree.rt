@@ -1,7 +1,8 @@
 // The tree that a station file says.
-ghost use Rattle.std.specs.Prelude.{◌≡◌, ◌≤◌, true, length, take};
+ghost use Rattle.std.specs.Prelude.{◌≡◌, true};
 ghost use Rattle.tree.specs.Rules.{keeps_rules};
 
+use arrayvec::ArrayVec;
 use tree::line::Row;
 
 mod answers;
@@ -10,9 +11,6 @@ mod filling;
 // Every read tree keeps the rules of tree lines: no other can be made.
 #[derive(Drop)]
 pub struct ReadTree {
-    rows: [Row; 64],
-    count: usize,
-    ghost sized: { length rows ≡ 64 },
-    ghost few: { count ≤ 64 },
-    ghost ruled: { keeps_rules (take count rows) ≡ true },
+    rows: ArrayVec<Row, 64>,
+    ghost ruled: { keeps_rules rows.items ≡ true },
 }

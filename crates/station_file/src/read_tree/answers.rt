@@ -11,14 +11,14 @@ impl Tree for ReadTree {
     ghost ruled = { λ t. t.ruled };
 
     fn count(&self) -> usize {
-        self.count
+        self.rows.len()
     }
 
     fn line(&self, i: usize) -> Option<Line> {
-        Some(self.row(i)?.line)
+        Some(self.rows.as_slice().get(i)?.line)
     }
 
     fn name(&self, i: usize) -> Option<Name> {
-        Some(self.row(i)?.name)
+        Some(self.rows.as_slice().get(i)?.name)
     }
 }

@@ -1,0 +1,11 @@
+-- Where a line stands: below the lines above it, after whose number it comes.
+use Rattle.std.specs.Prelude.{ℕ, suc, List, length}
+use Rattle.tree.specs.declared.line.Row.{Row}
+use Rattle.station_file.specs.declared.record.Record.{Record}
+
+abbrev pub rows_above : Record → List Row
+rows_above r = r.above.now
+
+-- the number of the line, from 1
+abbrev pub line_of : Record → ℕ
+line_of r = suc (length r.above.now)

@@ -1,0 +1,17 @@
+// One line of a station file.
+ghost use Rattle.std.specs.Prelude.{◌<◌, length};
+
+use tabbed_text::fields::Fields;
+use tree::line::Row;
+
+mod gates;
+mod parts;
+mod row;
+
+// The fields that are left to read in the line, and the lines above it.
+#[derive(Clone, Copy)]
+pub struct Record<'a> {
+    pub fields: Fields<'a>,
+    pub above: &'a [Row],
+    ghost few: { length above.now < 64 },
+}
