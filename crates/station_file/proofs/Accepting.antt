@@ -21,7 +21,7 @@ use Rattle.tree.proofs.Spelling.{same_refl, same_sym, name_of_spelled, spelled_w
 use Rattle.tabbed_text.specs.Fields.{separates, lines_of, tabbed}
 use Rattle.tabbed_text.specs.Questions.{then}
 use Rattle.tabbed_text.proofs.Chains.{goes}
-use Rattle.tabbed_text.proofs.Splitting.{lines_cons}
+use Rattle.tabbed_text.proofs.Splitting.{Inner, inner_cons, four_inner, lines_cons}
 use Rattle.tabbed_text.proofs.Numerals.{written_number, decimal_unparted}
 use Rattle.station_file.specs.Descriptions.{spelled_at, Lists, part_fields, Says, DescribesAfter, Describes}
 use Rattle.station_file.specs.Descriptions.Says.{part, all_of, any_of, vote_of, always, never}
@@ -210,24 +210,10 @@ module _ (above : List Row) (cs : List ℕ) (set : ℕ) (names : names_ok (names
 
 -- ---- one line
 
--- no byte ends a field
-abbrev Inner : ℕ → Type 0
-Inner b = separates b ≡ false
-
-abbrev Unparted : List (List ℕ) → Type 0
-Unparted fs = All (λ f. All (λ b. separates b ≡ false) f) fs
-
-unparted_cons : (f : List ℕ) (fs : List (List ℕ)) → All Inner f → Unparted fs → Unparted (f ∷ fs)
-unparted_cons f fs here more = All-cons (All Inner) f fs here more
-
-four_unparted : (a b c d : List ℕ) → All Inner a → All Inner b → All Inner c → All Inner d → Unparted (a ∷ (b ∷ (c ∷ (d ∷ []))))
-four_unparted a b c d p q r s =
-    unparted_cons a (b ∷ (c ∷ (d ∷ []))) p (unparted_cons b (c ∷ (d ∷ [])) q (unparted_cons c (d ∷ []) r (unparted_cons d [] s (All-nil (All Inner)))))
-
 -- the fields are cut apart again, and are read as the row
 record Good (above : List Row) (r : Row) (fs : List (List ℕ)) : Type 0 where
   some : 0 < length fs
-  unparted : Unparted fs
+  unparted : All (All Inner) fs
   reads : (line : ℕ) → record_of line above fs ≡ Ok r
 
 well_unparted : (bs : List ℕ) → well_named bs ≡ true → All Inner bs
@@ -255,13 +241,13 @@ module _ (above : List Row) (r : Row) (kept : line_ok (length above) r.line ≡ 
       cond-true (well_named (spelled r.name)) (Some (name_of (spelled r.name))) None (spelled_well r.name named)
       ∙ ap Some (name_of_spelled r.name named)
 
-  good : (letter : ℕ) (kind : Kind) (more : List (List ℕ)) → kind_of (letter ∷ []) ≡ Some kind → separates letter ≡ false → Unparted more
+  good : (letter : ℕ) (kind : Kind) (more : List (List ℕ)) → kind_of (letter ∷ []) ≡ Some kind → separates letter ≡ false → All (All Inner) more
       → ((line : ℕ) → body line above kind more ≡ Ok r.line) → Good above r (spelled r.name ∷ ((letter ∷ []) ∷ more))
   good letter kind more is cut fields says = record {
     some = omega arith;
     unparted =
-        unparted_cons (spelled r.name) ((letter ∷ []) ∷ more) (well_unparted (spelled r.name) (spelled_well r.name named))
-        (unparted_cons (letter ∷ []) more (All-cons Inner letter [] cut (All-nil Inner)) fields);
+        inner_cons (spelled r.name) ((letter ∷ []) ∷ more) (well_unparted (spelled r.name) (spelled_well r.name named))
+        (inner_cons (letter ∷ []) more (All-cons Inner letter [] cut (All-nil Inner)) fields);
     reads = λ line.
         goes (ok_or (kind_of (letter ∷ [])) (station_fault line 2 Letter)) _ kind (ap (λ o. ok_or o (station_fault line 2 Letter)) is)
         ∙ goes (up (name_field line (spelled r.name))) _ r.name (ap (λ o. up (ok_or o (field_fault line 1 NotName))) named_read)
@@ -280,7 +266,7 @@ module _ (above : List Row) (r : Row) (kept : line_ok (length above) r.line ≡ 
       let discount = leb-true p.discount 1000 b.1 in
       let price = leb-true p.price 10000000 a.1 in
       good 69 a_kind.Part (part_fields p) refl refl
-      (four_unparted _ _ _ _ (decimal_unparted p.rarity (omega arith)) (decimal_unparted p.class (omega arith)) (decimal_unparted p.discount (omega arith)) (decimal_unparted p.price (omega arith)))
+      (four_inner _ _ _ _ (decimal_unparted p.rarity (omega arith)) (decimal_unparted p.class (omega arith)) (decimal_unparted p.discount (omega arith)) (decimal_unparted p.price (omega arith)))
       (λ line.
       goes (up (number_field 0 60000 line 3 (decimal p.rarity))) _ p.rarity (number_read 0 60000 line 3 p.rarity (omega arith) (omega arith) rarity)
       ∙ goes (up (number_field 0 9 line 4 (decimal p.class))) _ p.class (number_read 0 9 line 4 p.class (omega arith) (omega arith) class)
@@ -298,7 +284,7 @@ module _ (above : List Row) (r : Row) (kept : line_ok (length above) r.line ≡ 
     size : length (fields_at above cs) ≡ length cs
     size = length-map cs (spelled_at above)
 
-    cut : Unparted (fields_at above cs)
+    cut : All (All Inner) (fields_at above cs)
     cut =
         All-map (All Inner) (spelled_at above) cs
         (λ k d h. let c = get_or cs k d in well_unparted (spelled_at above c) (well_at above c (all_under above cs set names rules.0 lists k d h) names))
@@ -325,7 +311,7 @@ module _ (above : List Row) (r : Row) (kept : line_ok (length above) r.line ≡ 
     vote_good : Good above r (spelled r.name ∷ ((86 ∷ []) ∷ (decimal need ∷ fields_at above cs)))
     vote_good =
         let n = rules.2 (omega (arith, count)) in
-        good 86 a_kind.AtLeast (decimal need ∷ fields_at above cs) refl refl (unparted_cons (decimal need) (fields_at above cs) (decimal_unparted need (omega (arith, rules.1, n.1))) cut)
+        good 86 a_kind.AtLeast (decimal need ∷ fields_at above cs) refl refl (inner_cons (decimal need) (fields_at above cs) (decimal_unparted need (omega (arith, rules.1, n.1))) cut)
         (λ line.
         cond-true _ _ _ (within 2 13 (decimal need ∷ fields_at above cs) (omega (arith, size)) (omega (arith, size, count, rules.1)))
         ∙ goes (up (number_field 1 (length (fields_at above cs)) line 3 (decimal need))) _ need

@@ -78,3 +78,6 @@ drop_min bs =
 
 pub a_name : (bs : List ℕ) → well_named bs ≡ true → Some (name_of bs) ≡ name_from bs
 a_name bs e = sym (cond-true (well_named bs) (Some (name_of bs)) None e)
+
+-- what the making of a name asks for
+pub ruleset two_words = (take_min, drop_min, a_name)

@@ -37,7 +37,7 @@ fn word_of(bytes: &[u8]) -> u64
 }
 
 // The name, where the bytes are one.
-#[tactic(auto, using(crate::proofs::NameWords::take_min, crate::proofs::NameWords::drop_min, crate::proofs::NameWords::a_name))]
+#[tactic(auto, using(crate::proofs::NameWords::two_words))]
 pub fn name_of(bytes: &[u8]) -> Option<Name>
     ensures { result ≡ name_from bytes.now }
 {

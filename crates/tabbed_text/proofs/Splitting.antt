@@ -17,20 +17,20 @@ tabbed_joined (f ∷ (g ∷ fs)) = ap (λ l. f ++ (9 ∷ l)) (tabbed_joined (g �
 pub tabbed_pieces : (bs : List ℕ) → tabbed (pieces 9 bs) ≡ bs
 tabbed_pieces bs = tabbed_joined (pieces 9 bs) ∙ join_with_byte-slice_split 9 bs
 
--- the places where a byte is no tab, is no end of a line, and is neither
+-- a byte is no tab, is no end of a line, and is neither
 abbrev Untabbed : ℕ → Type 0
 Untabbed b = eqb b 9 ≡ false
 
 abbrev Unended : ℕ → Type 0
 Unended b = eqb b 10 ≡ false
 
-abbrev Unparted : ℕ → Type 0
-Unparted b = separates b ≡ false
+abbrev pub Inner : ℕ → Type 0
+Inner b = separates b ≡ false
 
-no_tab : (b : ℕ) → Unparted b → Untabbed b
+no_tab : (b : ℕ) → Inner b → Untabbed b
 no_tab b e = (or_parts (eqb b 9) (eqb b 10) e).0
 
-no_end : (b : ℕ) → Unparted b → Unended b
+no_end : (b : ℕ) → Inner b → Unended b
 no_end b e = (or_parts (eqb b 9) (eqb b 10) e).1
 
 pub pieces_tabbed : (fs : List (List ℕ)) → 0 < length fs → All (All (λ b. eqb b 9 ≡ false)) fs → pieces 9 (tabbed fs) ≡ fs
@@ -48,25 +48,33 @@ ended_more (b ∷ f) rest free =
     cond-false (eqb b 10) ([] ∷ ended 10 (f ++ (10 ∷ rest))) (onto_first b (ended 10 (f ++ (10 ∷ rest)))) (All-head Unended b f free)
     ∙ ap (onto_first b) (ended_more f rest (All-tail Unended b f free))
 
-joined_unended : (fs : List (List ℕ)) → All (All Unparted) fs → All Unended (flat_map (λ g. 9 ∷ g) fs)
+joined_unended : (fs : List (List ℕ)) → All (All Inner) fs → All Unended (flat_map (λ g. 9 ∷ g) fs)
 joined_unended [] free = All-nil Unended
 joined_unended (f ∷ fs) free =
     let rest : List ℕ = flat_map (λ g. 9 ∷ g) fs in
-    let here = All-weaker Unparted Unended no_end f (All-head (All Unparted) f fs free) in
+    let here = All-weaker Inner Unended no_end f (All-head (All Inner) f fs free) in
     let tab : Unended 9 = refl in
-    All-cons Unended 9 (f ++ rest) tab (All-append Unended f rest here (joined_unended fs (All-tail (All Unparted) f fs free)))
+    All-cons Unended 9 (f ++ rest) tab (All-append Unended f rest here (joined_unended fs (All-tail (All Inner) f fs free)))
 
-tabbed_unended : (fs : List (List ℕ)) → All (All Unparted) fs → All Unended (tabbed fs)
+tabbed_unended : (fs : List (List ℕ)) → All (All Inner) fs → All Unended (tabbed fs)
 tabbed_unended [] free = All-nil Unended
 tabbed_unended (f ∷ fs) free =
-    let here = All-weaker Unparted Unended no_end f (All-head (All Unparted) f fs free) in
-    All-append Unended f (flat_map (λ g. 9 ∷ g) fs) here (joined_unended fs (All-tail (All Unparted) f fs free))
+    let here = All-weaker Inner Unended no_end f (All-head (All Inner) f fs free) in
+    All-append Unended f (flat_map (λ g. 9 ∷ g) fs) here (joined_unended fs (All-tail (All Inner) f fs free))
 
 -- a line that is written in front of a text is its first line
 pub lines_cons : (fs : List (List ℕ)) (rest : List ℕ) → 0 < length fs → All (λ f. All (λ b. separates b ≡ false) f) fs → lines_of (tabbed fs ++ (10 ∷ rest)) ≡ fs ∷ lines_of rest
 lines_cons fs rest some free =
     ap (map (pieces 9)) (ended_more (tabbed fs) rest (tabbed_unended fs free))
-    ∙ ap (λ gs. gs ∷ lines_of rest) (pieces_tabbed fs some (All-weaker (All Unparted) (All Untabbed) (All-weaker Unparted Untabbed no_tab) fs free))
+    ∙ ap (λ gs. gs ∷ lines_of rest) (pieces_tabbed fs some (All-weaker (All Inner) (All Untabbed) (All-weaker Inner Untabbed no_tab) fs free))
+
+-- fields of such bytes
+pub inner_cons : (f : List ℕ) (fs : List (List ℕ)) → All Inner f → All (All Inner) fs → All (All Inner) (f ∷ fs)
+inner_cons f fs here more = All-cons (All Inner) f fs here more
+
+pub four_inner : (a b c d : List ℕ) → All Inner a → All Inner b → All Inner c → All Inner d → All (All Inner) (a ∷ (b ∷ (c ∷ (d ∷ []))))
+four_inner a b c d p q r s =
+    inner_cons a (b ∷ (c ∷ (d ∷ []))) p (inner_cons b (c ∷ (d ∷ [])) q (inner_cons c (d ∷ []) r (inner_cons d [] s (All-nil (All Inner)))))
 
 some_onto : (b : ℕ) (fs : List (List ℕ)) → 0 < length (onto_first b fs)
 some_onto b [] = omega arith

@@ -6,7 +6,7 @@ ghost use Rattle.tabbed_text.specs.Writing.{Writes};
 use tree::line::Name;
 
 // Writes go on from the place; what lies past the end of the lent bytes is counted, not written. So a writer over
-// no bytes measures a text.
+// no bytes measures a text. No `io::Write` over the bytes: that stops at their end, and counts nothing past it.
 #[derive(Drop)]
 pub struct Writer<'a> {
     out: &'a mut [u8],

@@ -1,17 +1,18 @@
-// What every record has: a name and a letter.
-ghost use Rattle.std.specs.Prelude.{◌≡◌, ◌<◌, IfSome};
+// What every record has, a name and a letter, and how the rest of it is read.
+ghost use Rattle.std.specs.Prelude.{◌≡◌, ◌<◌, ◌≤◌, drop, IfOk, IfSome};
+ghost use Rattle.std.specs.List.{position};
+ghost use Rattle.tree.specs.Names.{same_name};
 ghost use Rattle.tabbed_text.specs.Fields.{fields_of, more_fields};
 ghost use Rattle.tabbed_text.specs.Remains.{remains};
 ghost use Rattle.station_file.specs.Faults.{station_fault};
 ghost use Rattle.station_file.specs.Lines.{line_of, rows_above};
-ghost use Rattle.std.specs.List.{position};
-ghost use Rattle.tree.specs.Names.{same_name};
-ghost use Rattle.station_file.specs.Records.{body as body_of, name_field, new_name, record_of};
+ghost use Rattle.station_file.specs.Records.{body as body_of, name_field, new_name, next_number, record_of};
 
 use crate::faults::{FieldCause, FieldFault, StationCause, StationFault};
 use crate::letters::{Kind, record_kind};
 use crate::names::name_of;
 use crate::record::Record;
+use tabbed_text::numbers::number;
 use tree::line::{Gate, Line, Name, Row};
 
 impl<'a> Record<'a> {
@@ -51,6 +52,20 @@ impl<'a> Record<'a> {
             Some(_) => Err(self.fault(1, StationCause::NameTaken)),
             None => Ok(name),
         }
+    }
+
+    // The number in the next field, which is the line's field `field`.
+    pub fn number(&mut self, field: usize, low: u32, high: u32) -> Result<u32, StationFault>
+        ensures value { result ≡ next_number low high (line_of self.old) field (more_fields (remains self.old.fields)) }
+        ensures within { IfOk result (λ n. n ≤ high) }
+        ensures more { more_fields (remains self.new.fields) ≡ drop 1 (more_fields (remains self.old.fields)) }
+        ensures above { rows_above self.new ≡ rows_above self.old }
+    {
+        let Some(digits) = self.fields.next() else {
+            return Err(self.fault(0, StationCause::FieldCount));
+        };
+        let fault = FieldFault::at(self.line(), field, FieldCause::NotNumber);
+        Ok(number(digits, low, high).ok_or(fault)?)
     }
 
     fn body(self, kind: Kind) -> Result<Line, StationFault>
