@@ -1,7 +1,8 @@
 -- An order's line is read as that order, and an order that is read was written in the first line.
 use Rattle.std.proofs.Common.{◌≡◌, ℕ, ◌+◌, ◌^◌, ◌<◌, ◌≤◌, Bool, true, false, cond, eqb, List, [], ◌∷◌, ◌++◌, length, Some, None, Ok, decimal, Option, sym, refl, ap, ◌∙◌, subst, arith}
 use Rattle.std.specs.Option.{ok_or}
-use Rattle.std.specs.List.{AllByRecursion as All}
+use Rattle.std.specs.List.{All}
+use Rattle.std.proofs.lemmas.List.Elements.{All-nil, All-cons}
 use Rattle.std.proofs.lemmas.Fmt.{length-decimal-le}
 use Rattle.std.proofs.lemmas.List.{append_assoc, append_cancel_left, length-append}
 use Rattle.std.proofs.lemmas.Bool.{cond-true, eqb-true}
@@ -9,7 +10,7 @@ use Rattle.tabbed_text.specs.Fields.{up_to, after, tabbed, fields_of, separates}
 use Rattle.tabbed_text.proofs.Chains.{refused, went, goes, ok_some, allowed}
 use Rattle.tabbed_text.proofs.NextLines.{first_line}
 use Rattle.tabbed_text.proofs.Numerals.{number_written, written_number, decimal_unparted}
-use Rattle.tabbed_text.proofs.Splitting.{lines_cons, tabbed_pieces}
+use Rattle.tabbed_text.proofs.Splitting.{Inner, four_inner, lines_cons, tabbed_pieces}
 use Rattle.page.specs.Faults.{page_fault}
 use Rattle.page.specs.Orders.{line_within, criterion_of, criterion_field, order_number, order_fields, order_line, order_of}
 use Rattle.page.specs.Tasks.{letter, order_words, order_text, OrderOk}
@@ -21,7 +22,7 @@ use Rattle.page.proofs.Heading.{line_whole, within_line}
 
 -- ---- the first line of a text
 
-module _ (fs : List (List ℕ)) (rest : List ℕ) (some : 0 < length fs) (free : All (λ f. All (λ b. separates b ≡ false) f) fs) where
+module _ (fs : List (List ℕ)) (rest : List ℕ) (some : 0 < length fs) (free : All (All Inner) fs) where
   fields_line : fields_of (tabbed fs ++ (10 ∷ rest)) ≡ fs
   fields_line =
       let bs = tabbed fs ++ (10 ∷ rest) in
@@ -103,14 +104,10 @@ letter_unparted Rarity = refl
 letter_unparted Class = refl
 letter_unparted Size = refl
 
-words_unparted : (o : Order) → OrderOk o → All (λ f. All (λ b. separates b ≡ false) f) (order_words o)
-words_unparted o ok = (
-  decimal_unparted o.terms.year (omega arith),
-  (
-    decimal_unparted o.terms.growth (omega arith),
-    ((letter_unparted o.criterion, tt), (decimal_unparted o.sets (omega arith), tt)),
-  ),
-)
+words_unparted : (o : Order) → OrderOk o → All (All Inner) (order_words o)
+words_unparted o ok =
+    four_inner _ _ _ _ (decimal_unparted o.terms.year (omega arith)) (decimal_unparted o.terms.growth (omega arith))
+    (All-cons Inner (letter o.criterion) [] (letter_unparted o.criterion) (All-nil Inner)) (decimal_unparted o.sets (omega arith))
 
 words_short : (o : Order) → OrderOk o → length (tabbed (order_words o)) < 32
 words_short o ok =
