@@ -1,5 +1,5 @@
 -- An order's line is read as that order, and an order that is read was written in the first line.
-use Rattle.std.proofs.Common.{◌≡◌, ℕ, ◌+◌, ◌^◌, ◌<◌, ◌≤◌, Bool, true, false, cond, eqb, List, [], ◌∷◌, ◌++◌, length, Some, None, Ok, decimal, Option, sym, refl, ap, ◌∙◌, subst, arith}
+use Rattle.std.proofs.Common.{◌≡◌, ℕ, ◌+◌, ◌^◌, ◌<◌, ◌≤◌, Bool, true, false, cond, eqb, List, [], ◌∷◌, ◌++◌, length, Some, None, Ok, Err, ◌≢◌, decimal, Option, sym, refl, ap, ◌∙◌, subst, arith}
 use Rattle.std.specs.Option.{ok_or}
 use Rattle.std.specs.List.{All}
 use Rattle.std.proofs.lemmas.List.Elements.{All-nil, All-cons}
@@ -14,7 +14,7 @@ use Rattle.tabbed_text.proofs.Splitting.{Inner, four_inner, lines_cons, tabbed_p
 use Rattle.page.specs.Faults.{page_fault}
 use Rattle.page.specs.Orders.{line_within, criterion_of, criterion_field, order_number, order_fields, order_line, order_of}
 use Rattle.page.specs.Tasks.{letter, order_words, order_text, OrderOk}
-use Rattle.page.specs.declared.faults.PageCause.TheVariants.{OrderField}
+use Rattle.page.specs.declared.faults.PageCause.TheVariants.{NoOrder, OrderField}
 use Rattle.page.specs.declared.order.Criterion.{Criterion}
 use Rattle.page.specs.declared.order.Criterion.TheVariants.{Price, Rarity, Class, Size}
 use Rattle.page.specs.declared.order.Order.{Order}
@@ -95,6 +95,18 @@ line_written (y ∷ (g ∷ [])) o e = refused _ o _ e
 line_written (y ∷ (g ∷ (l ∷ []))) o e = refused _ o _ e
 line_written (y ∷ (g ∷ (l ∷ (k ∷ [])))) o e = fields_written y g l k o e
 line_written (y ∷ (g ∷ (l ∷ (k ∷ (x ∷ xs))))) o e = refused _ o _ e
+
+-- a line of four fields, one after another
+pub four_unrolled : (y g l k : List ℕ) (fs more last : List (List ℕ)) → fs ≡ g ∷ more → more ≡ l ∷ last → last ≡ k ∷ []
+    → order_line (y ∷ fs) ≡ order_fields y g l k
+four_unrolled y g l k fs more last e f h = rw (e, f, h) refl
+
+pub not_four : (y : List ℕ) (fs : List (List ℕ)) → length fs ≢ 3 → order_line (y ∷ fs) ≡ Err (page_fault 1 0 NoOrder)
+not_four y [] n = refl
+not_four y (g ∷ []) n = refl
+not_four y (g ∷ (l ∷ [])) n = refl
+not_four y (g ∷ (l ∷ (k ∷ []))) n = absurd (n refl)
+not_four y (g ∷ (l ∷ (k ∷ (x ∷ xs)))) n = refl
 
 -- ---- the order line
 

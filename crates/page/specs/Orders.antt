@@ -1,6 +1,6 @@
 -- The order line, by its questions in the order in which they are asked: is there a byte 10 among the first 32 bytes,
 -- with exactly four fields before it, and is each field right, from the left?
-use Rattle.std.specs.Prelude.{ℕ, Bool, cond, take, List, [], ◌∷◌, Some, None, Ok, Err, Option, Result, ◌==◌}
+use Rattle.std.specs.Prelude.{◌≡◌, ℕ, Bool, cond, take, List, [], ◌∷◌, Some, None, Ok, Err, Option, Result, ◌==◌}
 use Rattle.std.specs.Option.{ok_or}
 use Rattle.std.specs.List.{list_any}
 use Rattle.station_file.specs.Files.{read_file}
@@ -8,6 +8,7 @@ use Rattle.tree.specs.declared.line.Row.{Row}
 use Rattle.tabbed_text.specs.Fields.{fields_of, after}
 use Rattle.tabbed_text.specs.Numbers.{number_in}
 use Rattle.tabbed_text.specs.Questions.{then}
+use Rattle.tabbed_text.specs.declared.letters.UnknownLetter.{UnknownLetter}
 use Rattle.page.specs.Faults.{page_fault, up}
 use Rattle.page.specs.declared.faults.PageCause.TheVariants.{NoOrder, OrderField}
 use Rattle.page.specs.declared.faults.PageFault.{PageFault}
@@ -20,12 +21,20 @@ abbrev pub line_within : ℕ → List ℕ → Bool
 line_within n bs = list_any (λ b. b == 10) (take n bs)
 
 -- P, R, C and S
-abbrev pub criterion_of : List ℕ → Option Criterion
-criterion_of [] = None
-criterion_of (b ∷ []) =
+abbrev pub criterion_of_letter : ℕ → Option Criterion
+criterion_of_letter b =
     cond (b == 80) (Some Price) (cond (b == 82) (Some Rarity) (cond (b == 67) (Some Class)
     (cond (b == 83) (Some Size) None)))
+
+-- the criterion that a field of one letter says
+abbrev pub criterion_of : List ℕ → Option Criterion
+criterion_of [] = None
+criterion_of (b ∷ []) = criterion_of_letter b
 criterion_of (b ∷ (d ∷ bs)) = None
+
+-- r is the criterion that the letter says, or that it says none
+abbrev pub Letters : ℕ → Result Criterion UnknownLetter → Type 0
+Letters b r = r ≡ ok_or (criterion_of_letter b) (record {})
 
 abbrev pub criterion_field : List ℕ → Result Criterion PageFault
 criterion_field bs = ok_or (criterion_of bs) (page_fault 1 3 OrderField)

@@ -1,19 +1,19 @@
 // Why a page is refused, and where.
 ghost use Rattle.std.specs.Prelude.{◌≡◌};
-ghost use Rattle.page.specs.Faults.{raised, page_fault};
+ghost use Rattle.page.specs.Faults.{page_number, number_of, layer_of, page_fault, raised};
 
 use station_file::faults::{FieldCause, StationCause, StationFault, StationLayer};
 
-// The page layer.
+// The page layer, by the numbers of its refusals.
 #[derive(Clone, Copy, PartialEq, Eq)]
 pub enum PageCause {
-    NoOrder,
-    OrderField,
-    NoRoom,
+    NoRoom = 31,
+    NoOrder = 40,
+    OrderField = 41,
 }
 
 // Where a page's fault arose.
-#[derive(Clone, Copy)]
+#[derive(Clone, Copy, PartialEq, Eq)]
 pub enum PageLayer {
     Field(FieldCause),
     Station(StationCause),
@@ -22,7 +22,7 @@ pub enum PageLayer {
 
 // A page that is refused; lines of a station count from 1 without the order line, and line and field are 0 where none
 // is named.
-#[derive(Clone, Copy)]
+#[derive(Clone, Copy, PartialEq, Eq)]
 pub struct PageFault {
     pub line: usize,
     pub field: usize,
@@ -30,12 +30,42 @@ pub struct PageFault {
 }
 
 impl PageCause {
+    // The number of the refusal.
+    pub fn number(self) -> u64
+        ensures is_number { result ≡ page_number self }
+    {
+        self as u64
+    }
+
     // The fault of that line and field.
     pub fn at(self, line: usize, field: usize) -> PageFault
         ensures says_where { result ≡ page_fault line field self }
     {
         let layer = PageLayer::Page(self);
         PageFault { line, field, layer }
+    }
+}
+
+impl PageLayer {
+    // The number of the refusal.
+    pub fn number(self) -> u64
+        ensures is_number { result ≡ number_of self }
+    {
+        match self {
+            PageLayer::Field(cause) => cause.number(),
+            PageLayer::Station(cause) => cause.number(),
+            PageLayer::Page(cause) => cause.number(),
+        }
+    }
+
+    pub fn letter(self) -> u8
+        ensures is_letter { result ≡ layer_of self }
+    {
+        match self {
+            PageLayer::Field(_) => b'N',
+            PageLayer::Station(_) => b'S',
+            PageLayer::Page(_) => b'P',
+        }
     }
 }
 

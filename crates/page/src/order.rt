@@ -1,18 +1,17 @@
 // The order line: year, growth, letter of the ranking, number of sets.
 ghost use Rattle.std.specs.Prelude.{◌≡◌, ◌≤◌, [], ◌∷◌, IfOk, Ok, Err, MatchOption, MatchResult};
 ghost use Rattle.station_file.specs.Trees.{rows_of};
-ghost use Rattle.tabbed_text.specs.Fields.{fields_of};
+ghost use Rattle.tabbed_text.specs.Fields.{fields_of, more_fields};
 ghost use Rattle.tabbed_text.specs.Remains.{remains};
-ghost use Rattle.page.specs.Orders.{criterion_of, criterion_field, line_within, order_number, order_fields, order_line, order_of, task_read, order_told, rows_told};
+ghost use Rattle.page.specs.Orders.{Letters, criterion_field, line_within, order_number, order_line, order_of, task_read, order_told, rows_told};
 ghost use Rattle.page.specs.Tasks.{DecidesTask, ReadsTaskExactly};
-ghost use Rattle.page.specs.Faults.{page_fault};
-ghost use Rattle.page.specs.declared.faults.PageCause.TheVariants.{NoOrder};
 
 use crate::faults::{PageCause, PageFault};
 use ranking::terms::Terms;
 use station_file::read_tree::ReadTree;
 use station_file::reader::read;
 use tabbed_text::fields::Fields;
+use tabbed_text::letters::{UnknownLetter, letter};
 use tabbed_text::numbers::number;
 
 // What sets are ranked by first: price above rarity, or one of the others above price.
@@ -31,18 +30,19 @@ pub struct Order {
     pub sets: u32,
 }
 
-fn criterion_of(field: &[u8]) -> Option<Criterion>
-    ensures { result ≡ criterion_of field.now }
-{
-    let [letter] = field else {
-        return None;
-    };
-    match *letter as char {
-        'P' => Some(Criterion::Price),
-        'R' => Some(Criterion::Rarity),
-        'C' => Some(Criterion::Class),
-        'S' => Some(Criterion::Size),
-        _ => None,
+impl TryFrom<char> for Criterion {
+    type Error = UnknownLetter;
+
+    ghost try_from_gives = { Letters };
+
+    fn try_from(letter: char) -> Result<Criterion, UnknownLetter> {
+        match letter {
+            'P' => Ok(Criterion::Price),
+            'R' => Ok(Criterion::Rarity),
+            'C' => Ok(Criterion::Class),
+            'S' => Ok(Criterion::Size),
+            _ => Err(UnknownLetter),
+        }
     }
 }
 
@@ -53,71 +53,47 @@ fn has_line(input: &[u8]) -> bool
     input.iter().take(32).any(|b| *b == b'\n')
 }
 
-fn order_number(bytes: &[u8], low: u32, high: u32, field: usize) -> Result<u32, PageFault>
-    ensures value { result ≡ order_number low high field bytes.now }
+fn order_number(digits: &[u8], field: usize, low: u32, high: u32) -> Result<u32, PageFault>
+    ensures value { result ≡ order_number low high field digits.now }
     ensures within { IfOk result (λ n. n ≤ high) }
 {
-    number(bytes, low, high).ok_or(PageCause::OrderField.at(1, field))
+    number(digits, low, high).ok_or(PageCause::OrderField.at(1, field))
 }
 
-fn criterion_field(bytes: &[u8]) -> Result<Criterion, PageFault>
-    ensures { result ≡ criterion_field bytes.now }
+fn criterion_field(field: &[u8]) -> Result<Criterion, PageFault>
+    ensures { result ≡ criterion_field field.now }
 {
-    criterion_of(bytes).ok_or(PageCause::OrderField.at(1, 3))
+    let criterion = letter(field).and_then(|letter| Criterion::try_from(letter).ok());
+    criterion.ok_or(PageCause::OrderField.at(1, 3))
 }
 
-#[derive(Clone, Copy)]
-struct OrderFields<'a> {
-    year: &'a [u8],
-    growth: &'a [u8],
-    letter: &'a [u8],
-    sets: &'a [u8],
-}
-
-// Four fields, where the line has just these.
-fn four_fields<'a>(walk: &mut Fields<'a>) -> Option<OrderFields<'a>>
-    ensures value { MatchOption result (order_line (fields_of (remains walk.old)) ≡ Err (page_fault 1 0 NoOrder)) (λ f. fields_of (remains walk.old) ≡ f.year.now ∷ (f.growth.now ∷ (f.letter.now ∷ (f.sets.now ∷ [])))) }
+fn next_field<'a>(fields: &mut Fields<'a>) -> Result<&'a [u8], PageFault>
+    ensures value { MatchResult result (λ f. more_fields (remains fields.old) ≡ f.now ∷ more_fields (remains fields.new)) (λ f. more_fields (remains fields.old) ≡ []) }
 {
-    let year = walk.first();
-    let growth = walk.next()?;
-    let letter = walk.next()?;
-    let sets = walk.next()?;
-    if walk.next().is_some() {
-        return None;
+    fields.next().ok_or(PageCause::NoOrder.at(1, 0))
+}
+
+// The order of a line by its fields.
+#[tactic(auto, using(crate::proofs::Ordering::four_unrolled, crate::proofs::Ordering::not_four))]
+fn order_line(mut fields: Fields) -> Result<Order, PageFault>
+    ensures { result ≡ order_line (fields_of (remains fields.entry)) }
+{
+    let year = fields.first();
+    if fields.left() != 3 {
+        return Err(PageCause::NoOrder.at(1, 0));
     }
-    Some(OrderFields {
-        year,
-        growth,
-        letter,
-        sets,
-    })
-}
-
-fn order_values(f: OrderFields) -> Result<Order, PageFault>
-    ensures { result ≡ order_fields f.entry.year.now f.entry.growth.now f.entry.letter.now f.entry.sets.now }
-{
-    let year = order_number(f.year, 0, 10, 1)?;
-    let growth = order_number(f.growth, 0, 200, 2)?;
+    let year = order_number(year, 1, 0, 10)?;
+    let growth = order_number(next_field(&mut fields)?, 2, 0, 200)?;
     let Ok(terms) = Terms::new(year, growth) else {
         unreachable!()
     };
-    let criterion = criterion_field(f.letter)?;
-    let sets = order_number(f.sets, 1, 64, 4)?;
+    let criterion = criterion_field(next_field(&mut fields)?)?;
+    let sets = order_number(next_field(&mut fields)?, 4, 1, 64)?;
     Ok(Order {
         terms,
         criterion,
         sets,
     })
-}
-
-// The order of a line by its fields.
-fn order_line(walk: &mut Fields) -> Result<Order, PageFault>
-    ensures { result ≡ order_line (fields_of (remains walk.old)) }
-{
-    let Some(f) = four_fields(walk) else {
-        return Err(PageCause::NoOrder.at(1, 0));
-    };
-    order_values(f)
 }
 
 // The order, where the input begins with an order line.
@@ -128,8 +104,7 @@ fn read_order(input: &[u8]) -> Result<Order, PageFault>
     if !has_line(input) {
         return Err(PageCause::NoOrder.at(1, 0));
     }
-    let mut walk = Fields::new(input);
-    order_line(&mut walk)
+    order_line(Fields::new(input))
 }
 
 // Reads the order line and the station file after it, which fills the tree; where either is refused, the tree stays as
@@ -141,8 +116,8 @@ pub fn read_task(input: &[u8], tree: &mut ReadTree) -> Result<Order, PageFault>
     ensures reads_exactly { ReadsTaskExactly input.now result (rows_of tree.old) (rows_of tree.new) }
 {
     let order = read_order(input)?;
-    let mut walk = Fields::new(input);
-    walk.end_line();
-    read(walk.rest(), tree)?;
+    let mut fields = Fields::new(input);
+    fields.end_line();
+    read(fields.rest(), tree)?;
     Ok(order)
 }

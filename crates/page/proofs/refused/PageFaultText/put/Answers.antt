@@ -20,4 +20,4 @@ returns c =
     let s₄ = still_short s₃ letter in
     let s₅ = still_short s₄ line in
     let all = writes_then short word (writes_then s₁ number (writes_then s₂ tab (writes_then s₃ letter (writes_then s₄ line (writes_then s₅ field end))))) in
-    record { writes_bytes = subst (λ t. Writes t c.args.w.now c.byte-3.new.self) (refused_pieces c.args.self.now _ _ c.number_of.ensures c.letter_of.ensures) all }
+    record { writes_bytes = subst (λ t. Writes t c.args.w.now c.byte-3.new.self) (refused_pieces c.args.self.now _ _ c.number.ensures.is_number c.letter.ensures.is_letter) all }
