@@ -5,16 +5,16 @@ ghost use Rattle.kinds.specs.Faults.{number_of, layer_of, of_layer, refusal_text
 use std::error::Error;
 use std::fmt;
 
-// The lantern layer.
+// The lantern layer, by the numbers of its refusals.
 #[derive(Clone, Copy, Debug, PartialEq, Eq)]
 pub enum LanternCause {
-    OutOfLimits,
+    OutOfLimits = 16,
 }
 
-// The fixing layer.
+// The fixing layer, by the numbers of its refusals.
 #[derive(Clone, Copy, Debug, PartialEq, Eq)]
 pub enum FixingCause {
-    NotPart,
+    NotPart = 14,
 }
 
 // Where a tree's fault arose.
@@ -33,13 +33,13 @@ pub struct TreeFault {
 }
 
 impl TreeLayer {
-    // The number of the refusal.
+    // The number of the refusal: its enum's own, which `as` tells.
     pub fn number(self) -> u8
         ensures is_the_number { result ≡ number_of self }
     {
         match self {
-            TreeLayer::Fixing(FixingCause::NotPart) => 14,
-            TreeLayer::Lantern(LanternCause::OutOfLimits) => 16,
+            TreeLayer::Fixing(cause) => cause as u8,
+            TreeLayer::Lantern(cause) => cause as u8,
         }
     }
 

@@ -8,6 +8,7 @@ use std::process::ExitCode;
 
 fn main(rt: HostRuntime) -> anyhow::Result<ExitCode> {
     let mut input = Vec::new(rt.alloc());
+    // `as`: std has no From between usize and u64.
     rt.stdin().take(INPUT_BYTES as u64).read_to_end(&mut input)?;
     let mut page = vec![in rt.alloc(); 0u8; PAGE_BYTES]?;
     let written = answer(input.as_slice(), page.as_mut_slice());

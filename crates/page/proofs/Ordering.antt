@@ -1,13 +1,13 @@
 -- An order's line is read as that order, and an order that is read was written in the first line.
-use Rattle.std.proofs.Common.{◌≡◌, ℕ, ◌+◌, ◌^◌, ◌<◌, ◌≤◌, Bool, true, false, cond, eqb, List, [], ◌∷◌, ◌++◌, length, Some, None, Ok, Err, ◌≢◌, decimal, Option, sym, refl, ap, ◌∙◌, subst, arith}
+use Rattle.std.proofs.Common.{◌≡◌, ℕ, ◌+◌, ◌^◌, ◌<◌, ◌≤◌, false, eqb, List, [], ◌∷◌, ◌++◌, length, Some, None, Ok, Err, ◌≢◌, decimal, Option, sym, refl, ap, ◌∙◌, subst, arith}
 use Rattle.std.specs.Option.{ok_or}
 use Rattle.std.specs.List.{All}
 use Rattle.std.proofs.lemmas.List.Elements.{All-nil, All-cons}
 use Rattle.std.proofs.lemmas.Fmt.{length-decimal-le}
 use Rattle.std.proofs.lemmas.List.{append_assoc, append_cancel_left, length-append}
-use Rattle.std.proofs.lemmas.Bool.{cond-true, eqb-true}
+use Rattle.std.proofs.lemmas.Bool.{cond-true}
 use Rattle.tabbed_text.specs.Fields.{up_to, after, tabbed, fields_of, separates}
-use Rattle.tabbed_text.proofs.Chains.{refused, went, goes, ok_some, allowed}
+use Rattle.tabbed_text.proofs.Chains.{letter_else, refused, went, goes, ok_some, allowed}
 use Rattle.tabbed_text.proofs.NextLines.{first_line}
 use Rattle.tabbed_text.proofs.Numerals.{number_written, written_number, decimal_unparted}
 use Rattle.tabbed_text.proofs.Splitting.{Inner, four_inner, lines_cons, tabbed_pieces}
@@ -41,18 +41,14 @@ module _ (fs : List (List ℕ)) (rest : List ℕ) (some : 0 < length fs) (free :
 
 -- ---- fields
 
-letter_else : (b : ℕ) (x k : Criterion) (rest : Option Criterion) (t : Bool) → eqb b (letter x) ≡ t → cond t (Some x) rest ≡ Some k → (rest ≡ Some k → b ≡ letter k) → b ≡ letter k
-letter_else b x k rest true t e more = let is : x ≡ k = cc in eqb-true b (letter x) t ∙ ap letter is
-letter_else b x k rest false t e more = more e
-
 none_some : (k : Criterion) (P : Type 0) → ◌≡◌ {A = Option Criterion} None (Some k) → P
 none_some k P e = let z : ◌≡◌ {A = ℕ} 0 1 = cc in let y : ⊥ = omega arith in absurd y
 
 criterion_written : (f : List ℕ) (k : Criterion) → criterion_of f ≡ Some k → f ≡ letter k ∷ []
 criterion_written [] k e = none_some k _ e
 criterion_written (b ∷ []) k e = ap (λ x. x ∷ [])
-    (letter_else b Price k _ (eqb b 80) refl e (λ e. letter_else b Rarity k _ (eqb b 82) refl e (λ e.
-    letter_else b Class k _ (eqb b 67) refl e (λ e. letter_else b Size k _ (eqb b 83) refl e (λ e. none_some k _ e)))))
+    (letter_else letter b Price k _ (eqb b 80) refl e (λ e. letter_else letter b Rarity k _ (eqb b 82) refl e (λ e.
+    letter_else letter b Class k _ (eqb b 67) refl e (λ e. letter_else letter b Size k _ (eqb b 83) refl e (λ e. none_some k _ e)))))
 criterion_written (b ∷ (d ∷ bs)) k e = none_some k _ e
 
 criterion_read : (k : Criterion) → criterion_field (letter k ∷ []) ≡ Ok k

@@ -30,7 +30,7 @@ pub struct PageFault {
 }
 
 impl PageCause {
-    // The number of the refusal.
+    // The number of the refusal: the enum's own, which `as` tells.
     pub fn number(self) -> u64
         ensures is_number { result ≡ page_number self }
     {

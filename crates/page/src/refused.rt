@@ -23,6 +23,7 @@ impl Text for PageFault {
         put_field(w, self.layer.number());
         w.byte(b'\t');
         w.byte(self.layer.letter());
+        // `as`: std has no From between usize and u64.
         put_field(w, self.line as u64);
         put_field(w, self.field as u64);
         w.byte(b'\n');

@@ -60,6 +60,7 @@ fn put_parts(w: &mut Writer, tree: &ReadTree, terms: Terms) -> u64
     ensures total { result ≡ total_cost terms.year terms.growth (rows_of tree.now) }
 {
     let mut total = 0;
+    // By number, as a tree is asked.
     for i in 0..tree.count() {
         if let Some(charged) = charged_at(tree, i, terms) {
             put_charge(w, charged);

@@ -47,6 +47,7 @@ pub fn is_within(a: u64, b: u64) -> bool
     a & !b == 0
 }
 
+// `as` in this file widens a count of bits: std has no From between u32 and usize.
 fn top_line(set: u64) -> usize
     requires { set ≢ 0 }
     ensures { Highest set result }
