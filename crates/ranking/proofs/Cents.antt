@@ -24,7 +24,7 @@ grown_below price growth i p g h =
 
 -- so there is room in 64 bits for one more rise
 module _ (price growth i cents : ℕ) (e : cents ≡ grown price growth i) (p : price < 2 ^ 32) (g : growth ≤ 200) (h : i ≤ 10) where
-  pub room_for_rise : cents * growth + 999 < 2 ^ 64
+  pub room_for_rise : cents * growth < 2 ^ 64
   room_for_rise = omega (arith, grown_below price growth i p g h, mul-le-mul_left cents g)
 
   pub room_for_sum : cents + rise growth cents < 2 ^ 64

@@ -21,19 +21,19 @@ impl<U: Ranking, L: Ranking> Ranking for Pair<U, L> {
 
     ghost lawful = { paired_lawful U.Ranking.model L.Ranking.model U.Ranking.lawful L.Ranking.lawful };
 
-    fn zero() -> (U::Weight, L::Weight) {
+    fn zero() -> Self::Weight {
         (U::zero(), L::zero())
     }
 
-    fn weigh(part: Part, charge: u64) -> (U::Weight, L::Weight) {
+    fn weigh(part: Part, charge: u64) -> Self::Weight {
         (U::weigh(part, charge), L::weigh(part, charge))
     }
 
-    fn join(a: (U::Weight, L::Weight), b: (U::Weight, L::Weight)) -> (U::Weight, L::Weight) {
+    fn join(a: Self::Weight, b: Self::Weight) -> Self::Weight {
         (U::join(a.0, b.0), L::join(a.1, b.1))
     }
 
-    fn at_most(a: (U::Weight, L::Weight), b: (U::Weight, L::Weight)) -> bool {
+    fn at_most(a: Self::Weight, b: Self::Weight) -> bool {
         lexicographic(
             a,
             b,
