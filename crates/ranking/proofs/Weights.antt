@@ -1,5 +1,5 @@
 -- What sets weigh: in any order, part by part, and no less than any set within.
-use Rattle.std.proofs.Common.{◌≡◌, ℕ, zero, suc, ◌^◌, ◌<◌, ◌≤◌, Bool, true, false, cond, ◌&&◌, List, [], ◌∷◌, length, sym, refl, ap, ◌∙◌, subst, ap₂, ⊎_elim, arith}
+use Rattle.std.proofs.Common.{◌≡◌, ℕ, zero, suc, ◌^◌, ◌<◌, ◌≤◌, Bool, true, false, cond, ◌&&◌, List, [], ◌∷◌, length, sym, refl, ap, ◌∙◌, subst, ⊎_elim, arith}
 use lib.Bits.{bit_or, bit_xor}
 use Rattle.std.proofs.lemmas.Bool.{false≢true, cases_lt}
 use Rattle.tree.specs.Holding.{the_line}
@@ -12,7 +12,7 @@ use Rattle.tree.specs.declared.line.Row.{Row}
 use Rattle.tree.proofs.Holding.{part_in}
 use Rattle.tree.proofs.Sets.{differs, same_set, has_none, has_or, has_xor, has_pow, has_one, in_left}
 use Rattle.ranking.specs.Models.{Model, Lawful}
-use Rattle.ranking.specs.Weights.{times, PartsOfSet, line_weight, weigh_below, weigh, joined, WeighsNone, InAnyOrder, WeighsOneMore, WeighsInTwo, WeighsNoLess}
+use Rattle.ranking.specs.Weights.{times, PartsOfSet, line_weight, weigh_below, weigh, joined}
 
 -- ---- sets
 
@@ -81,9 +81,9 @@ module _ {W : Type 0} (m : Model W) (p : Lawful m) where
         (λ ge. grind (arith, before_one i n ge, has_pow i n, p.unit))
         (cases_lt i n)
 
-    in_two : (s t : ℕ) → s ⊆ t → weigh m charge_of rows t ≡ m.join (weigh m charge_of rows s) (weigh m charge_of rows (bit_xor t s))
+    pub weighs_in_two : (s t : ℕ) → s ⊆ t → weigh m charge_of rows t ≡ m.join (weigh m charge_of rows s) (weigh m charge_of rows (bit_xor t s))
     unfolding weigh
-    in_two s t h = split_below s t (length rows) h
+    weighs_in_two s t h = split_below s t (length rows) h
 
     part_alone : (i : ℕ) (part : Part) → the_line rows i ≡ line.Part part → weigh m charge_of rows (2 ^ i) ≡ m.of_part part (charge_of part)
     unfolding weigh
@@ -91,7 +91,7 @@ module _ {W : Type 0} (m : Model W) (p : Lawful m) where
 
     pub one_more : (s i : ℕ) (part : Part) → has s i ≡ false → the_line rows i ≡ line.Part part → weigh m charge_of rows (bit_or s (2 ^ i)) ≡ m.join (weigh m charge_of rows s) (m.of_part part (charge_of part))
     one_more s i part h e =
-        cc (in_two s (bit_or s (2 ^ i)) (in_left s (2 ^ i)), rest_of_more s i h, part_alone i part e)
+        cc (weighs_in_two s (bit_or s (2 ^ i)) (in_left s (2 ^ i)), rest_of_more s i h, part_alone i part e)
 
     -- ---- in any order
 
@@ -112,29 +112,16 @@ module _ {W : Type 0} (m : Model W) (p : Lawful m) where
         let more = one_more rest i q (grind (arith, has_xor, has_one)) e in
         cc (back s i there, more, ap (line_weight m charge_of) e, p.commutative (weigh m charge_of rows rest) (line_weight m charge_of (the_line rows i)))
 
-    any_order : (is : List ℕ) (s : ℕ) → PartsOfSet rows s is → weigh m charge_of rows s ≡ joined m charge_of rows is
-    any_order [] s h = weighs_zero s h
-    any_order (i ∷ is) s h = first_joined s i is h ∙ ap (m.join (line_weight m charge_of (the_line rows i))) (any_order is (bit_xor s (2 ^ i)) (others rows s i is h))
+    pub in_any_order : (is : List ℕ) (s : ℕ) → PartsOfSet rows s is → weigh m charge_of rows s ≡ joined m charge_of rows is
+    in_any_order [] s h = weighs_zero s h
+    in_any_order (i ∷ is) s h = first_joined s i is h ∙ ap (m.join (line_weight m charge_of (the_line rows i))) (in_any_order is (bit_xor s (2 ^ i)) (others rows s i is h))
 
-    none : weigh m charge_of rows 0 ≡ m.zero
+    pub weighs_none : weigh m charge_of rows 0 ≡ m.zero
     unfolding weigh
-    none = zero_below 0 (length rows) (λ i. ap (λ b. cond b (line_weight m charge_of (the_line rows i)) m.zero) (has_none i))
+    weighs_none = zero_below 0 (length rows) (λ i. ap (λ b. cond b (line_weight m charge_of (the_line rows i)) m.zero) (has_none i))
 
-    no_less : (s t : ℕ) → s ⊆ t → m.le (weigh m charge_of rows s) (weigh m charge_of rows t) ≡ true
-    no_less s t h = subst (λ x. m.le (weigh m charge_of rows s) x ≡ true) (sym (in_two s t h)) (p.grows _ _)
+    pub weighs_no_less : (s t : ℕ) → s ⊆ t → m.le (weigh m charge_of rows s) (weigh m charge_of rows t) ≡ true
+    weighs_no_less s t h = subst (λ x. m.le (weigh m charge_of rows s) x ≡ true) (sym (weighs_in_two s t h)) (p.grows _ _)
 
-  pub weighs_none : WeighsNone m
-  weighs_none charge_of rows = none charge_of rows
-
-  pub in_any_order : InAnyOrder m
-  in_any_order charge_of rows s is h = any_order charge_of rows is s h
-
-  pub weighs_one_more : (weight : W) (part : Part) (charge : ℕ) (more : W) → more ≡ m.join weight (m.of_part part charge) → WeighsOneMore m weight part charge more
-  weighs_one_more weight part charge more is charge_of rows s i e h l c =
-      is ∙ ap₂ (λ w n. m.join w (m.of_part part n)) e (sym c) ∙ sym (one_more charge_of rows s i part h l)
-
-  pub weighs_in_two : WeighsInTwo m
-  weighs_in_two charge_of rows s t h = in_two charge_of rows s t h
-
-  pub weighs_no_less : WeighsNoLess m
-  weighs_no_less charge_of rows s t h = no_less charge_of rows s t h
+-- what add_part promises of the weights of sets
+pub ruleset set_weights = (weighs_none, in_any_order, one_more, weighs_in_two, weighs_no_less)

@@ -6,7 +6,7 @@ use crate::order::Ranking;
 use tree::line::Part;
 
 // The weight of a set with one part more, which is charged so many cents. A first part is added to zero.
-#[tactic(auto, using(crate::proofs::Weights::weighs_none, crate::proofs::Weights::in_any_order, crate::proofs::Weights::one_more, crate::proofs::Weights::weighs_in_two, crate::proofs::Weights::weighs_no_less))]
+#[tactic(auto, using(crate::proofs::Weights::set_weights))]
 pub fn add_part<R: Ranking>(weight: R::Weight, part: Part, charge: u64) -> R::Weight
     ensures joins_weight_of_part { result ≡ R.Ranking.model.join weight (R.Ranking.model.of_part part charge) }
     ensures weighs_set_with_part { WeighsOneMore R.Ranking.model weight part charge result }
