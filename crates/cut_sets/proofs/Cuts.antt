@@ -14,7 +14,7 @@ use Rattle.tree.specs.declared.line.Gate.{Gate}
 use Rattle.tree.specs.declared.line.Line.{Line}
 use Rattle.tree.specs.declared.line.Line.TheVariants as line
 use Rattle.tree.specs.declared.line.Row.{Row}
-use Rattle.tree.proofs.Holding.{lt_below, children_below, holds_gate, holds_more}
+use Rattle.tree.proofs.Holding.{past, line_there, none_there, few_lines, holding_laws, lt_below, children_below, holds_gate, holds_more}
 use Rattle.tree.proofs.Sets.{no_test, same_lines, meet_left, meet_right, in_meet, ones_mono, without, apart}
 use Rattle.tree.proofs.Told.{told_below, told_is}
 use Rattle.ranking.proofs.Weights.{is_part}
@@ -121,3 +121,11 @@ module _ (rows : List Row) (s : ℕ) where
 -- line i of a word
 pub alone_in : (s i : ℕ) → s < 2 ^ 64 → has s i ≡ true → alone i ≡ 2 ^ i
 alone_in s i h e = grind (arith, nat_tests, lt_below 64 s h i e)
+
+-- ---- what the functions of lines and sets need
+
+pub ruleset line_known = (line_there, none_there, past)
+
+pub ruleset line_told = (told_none, told_in, told_out)
+
+pub ruleset lines_hold = (holding_told, few_lines, holding_laws, by_choice)

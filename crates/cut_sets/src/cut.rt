@@ -11,7 +11,7 @@ use tree::line_set::{alone, has, is_within, size};
 use tree::station_tree::{Tree, top_of};
 
 // Line i; past the last line, a gate that never holds.
-#[tactic(auto, using(tree::proofs::Holding::line_there, tree::proofs::Holding::none_there, tree::proofs::Holding::past))]
+#[tactic(auto, using(crate::proofs::Cuts::line_known))]
 pub(crate) fn line_of<T: Tree>(tree: &T, i: usize) -> Line
     ensures { result ≡ the_line (T.Tree.meaning tree.now) i }
 {
@@ -29,7 +29,7 @@ fn holds_by<T: Tree>(tree: &T, failed: u64, i: usize, below: u64) -> bool
 }
 
 // The set of the lines that the test tells, from below: it sees which lines below are in the set.
-#[tactic(auto, using(crate::proofs::Cuts::told_none, crate::proofs::Cuts::told_in, crate::proofs::Cuts::told_out))]
+#[tactic(auto, using(crate::proofs::Cuts::line_told))]
 fn told<F: Fn(usize, u64) -> bool>(count: usize, test: F) -> u64
     requires in_a_word { count ≤ 64 }
     requires callable { F.IsAlwaysCallable test }
@@ -45,7 +45,7 @@ fn told<F: Fn(usize, u64) -> bool>(count: usize, test: F) -> u64
 }
 
 // The lines that hold when the parts of a set have failed.
-#[tactic(auto, using(crate::proofs::Cuts::holding_told, tree::proofs::Holding::few_lines, tree::proofs::Holding::holding_laws, crate::proofs::Cuts::by_choice))]
+#[tactic(auto, using(crate::proofs::Cuts::lines_hold))]
 pub fn lines_holding<T: Tree>(tree: &T, failed: u64) -> u64
     ensures are_the_lines_that_hold { result ≡ holding (T.Tree.meaning tree.now) failed }
     ensures lines_hold_by_their_laws { HoldingLaws (T.Tree.meaning tree.now) }

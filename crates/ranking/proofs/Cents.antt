@@ -33,6 +33,8 @@ module _ (price growth i cents : ℕ) (e : cents ≡ grown price growth i) (p : 
 pub grown_more : (price growth i cents more : ℕ) → cents ≡ grown price growth i → more ≡ rise growth cents → cents + more ≡ grown price growth (i + 1)
 grown_more price growth i cents more e f = cc (ap (grown price growth) (add-one i))
 
+pub ruleset growth = (room_for_rise, room_for_sum, grown_more)
+
 least_risen : (price growth : ℕ) → LeastCents (price * (1000 + growth)) (price + rise growth price)
 least_risen price growth =
     let e = mul-add price 1000 growth in

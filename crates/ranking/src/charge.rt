@@ -14,7 +14,7 @@ fn rise(price: u64, growth: u32) -> u64
 }
 
 // The list price with the growth of each year.
-#[tactic(auto, using(crate::proofs::Cents::room_for_rise, crate::proofs::Cents::room_for_sum, crate::proofs::Cents::grown_more))]
+#[tactic(auto, using(crate::proofs::Cents::growth))]
 fn grown(price: u32, terms: Terms) -> u64
     ensures { result ≡ grown price terms.growth terms.year }
 {
