@@ -13,7 +13,7 @@ use tree::station_tree::{Tree, top_of};
 
 // The one way that waits when a tree is loaded. What the waiting rule lists from there is promised for every charge of
 // parts and every number of slots.
-#[tactic(auto, using(crate::proofs::Ways::top_alone, crate::proofs::Examples::worked_out))]
+#[tactic(auto, using(crate::proofs::Ways::top_alone))]
 pub fn first_way<T: Tree, R: Ranking>(tree: &T) -> Way
     ensures waits_alone_when_loaded { loaded (T.Tree.meaning tree.now) ≡ search_of (result ∷ []) [] }
     ensures ways_are_ordered { OrdersWays R.Ranking.model (T.Tree.meaning tree.now) }

@@ -2,6 +2,7 @@ use Rattle.cut_sets.proofs.Ways.{ways_total}
 use Rattle.cut_sets.proofs.Listing.{lists_in_order, ways_in_order}
 use Rattle.cut_sets.proofs.Steps.{as_many_enter, steps_one_way}
 use Rattle.cut_sets.proofs.Runs.{comes_next, enough_slots}
+use Rattle.cut_sets.proofs.Examples.{worked_out}
 use Rattle.cut_sets.proofs.search.first_way.Goals as goal
 
 pub returns-clause-ways_are_ordered : goal.returns-clause-ways_are_ordered
@@ -34,3 +35,6 @@ returns-clause-lists_all_with_enough_slots g c charge_of =
 
 pub returns-clause-as_many_ways_enter_as_choices : goal.returns-clause-as_many_ways_enter_as_choices
 returns-clause-as_many_ways_enter_as_choices g c = let t = c.args.tree.now in as_many_enter (g.T.Tree.meaning t) (g.met.T.Tree.ruled t)
+
+pub returns-clause-worked_examples_come_out : goal.returns-clause-worked_examples_come_out
+returns-clause-worked_examples_come_out g c = worked_out
