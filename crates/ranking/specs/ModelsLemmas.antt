@@ -4,7 +4,7 @@ use Rattle.std.specs.Prelude.{◌≡◌, ℕ, ◌+◌, ◌≤◌, max}
 use Rattle.std.proofs.Common.{arith}
 use Rattle.std.proofs.lemmas.Bool.{le-leb}
 use Rattle.tree.specs.declared.line.Part.{Part}
-use Rattle.ranking.specs.Models.{Model, Lawful, LawfulJoin, stopped, by_number, paired}
+use Rattle.ranking.specs.Models.{Model, Lawful, LawfulJoin, stopped, by_number, summed, class, paired}
 use Rattle.orders.proofs.Orders.{leb_total, same_pair, keyed_total}
 
 -- ---- sums that stop
@@ -30,6 +30,12 @@ by_number_lawful counted join j =
       unit = j.unit;
       grows = λ a b. le-leb a (join a b) (j.grows a b);
     }
+
+pub summed_lawful : (counted : Part → ℕ → ℕ) → Lawful (summed counted)
+summed_lawful counted = by_number_lawful counted stopped stopped_lawful
+
+pub class_lawful : Lawful class
+class_lawful = by_number_lawful class.of_part max max_lawful
 
 -- ---- one above another
 

@@ -1,7 +1,7 @@
 // The four plain rankings: each by one 64-bit number, which the parts of a set count together.
 ghost use Rattle.std.specs.Prelude.{◌≡◌, ℕ, max};
 ghost use Rattle.tree.specs.declared.line.Part.{Part};
-ghost use Rattle.ranking.specs.Models.{stopped, by_number, LawfulJoin};
+ghost use Rattle.ranking.specs.Models.{stopped, by_number, price, rarity as rare, size as sized, class as classed, LawfulJoin};
 ghost use Rattle.ranking.specs.ModelsLemmas.{by_number_lawful, stopped_lawful, max_lawful};
 
 use crate::order::Ranking;
@@ -46,7 +46,7 @@ pub struct Sum;
 pub struct Largest;
 
 impl Measure for Cents {
-    ghost counted = { λ part charge. charge };
+    ghost counted = { price.of_part };
 
     fn of(_part: Part, charge: u64) -> u64 {
         charge
@@ -54,7 +54,7 @@ impl Measure for Cents {
 }
 
 impl Measure for Rareness {
-    ghost counted = { λ part charge. part.rarity };
+    ghost counted = { rare.of_part };
 
     fn of(part: Part, _charge: u64) -> u64 {
         u64::from(part.rarity)
@@ -62,7 +62,7 @@ impl Measure for Rareness {
 }
 
 impl Measure for Each {
-    ghost counted = { λ part charge. 1 };
+    ghost counted = { sized.of_part };
 
     fn of(_part: Part, _charge: u64) -> u64 {
         1
@@ -70,7 +70,7 @@ impl Measure for Each {
 }
 
 impl Measure for Reach {
-    ghost counted = { λ part charge. part.class };
+    ghost counted = { classed.of_part };
 
     fn of(part: Part, _charge: u64) -> u64 {
         u64::from(part.class)
