@@ -1,4 +1,4 @@
--- Where a line stands: below the lines above it, after whose number it comes.
+-- A line of a station file stands below the lines above it, and its number comes after theirs.
 use Rattle.std.specs.Prelude.{ℕ, suc, List, length}
 use Rattle.tree.specs.declared.line.Row.{Row}
 use Rattle.station_file.specs.declared.record.Record.{Record}

@@ -3,14 +3,14 @@ ghost use Rattle.std.specs.Prelude.{◌≡◌};
 ghost use Rattle.station_file.specs.Faults.{field_number, station_number, field_fault, station_fault, raised};
 
 // The field layer, by the numbers of its refusals.
-#[derive(Clone, Copy, PartialEq, Eq)]
+#[derive(Clone, Copy, Debug, PartialEq, Eq)]
 pub enum FieldCause {
     NotName = 5,
     NotNumber = 8,
 }
 
 // The station layer, by the numbers of its refusals.
-#[derive(Clone, Copy, PartialEq, Eq)]
+#[derive(Clone, Copy, Debug, PartialEq, Eq)]
 pub enum StationCause {
     Size = 1,
     NoEnd = 2,
@@ -23,14 +23,14 @@ pub enum StationCause {
 }
 
 // Where a station's fault arose.
-#[derive(Clone, Copy, PartialEq, Eq)]
+#[derive(Clone, Copy, Debug, PartialEq, Eq)]
 pub enum StationLayer {
     Field(FieldCause),
     Station(StationCause),
 }
 
 // A field that is refused; line and field count from 1.
-#[derive(Clone, Copy, PartialEq, Eq)]
+#[derive(Clone, Copy, Debug, PartialEq, Eq)]
 pub struct FieldFault {
     pub line: usize,
     pub field: usize,
@@ -38,7 +38,7 @@ pub struct FieldFault {
 }
 
 // A file that is refused; line and field are 0 where none is named.
-#[derive(Clone, Copy, PartialEq, Eq)]
+#[derive(Clone, Copy, Debug, PartialEq, Eq)]
 pub struct StationFault {
     pub line: usize,
     pub field: usize,

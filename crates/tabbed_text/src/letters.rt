@@ -3,7 +3,7 @@ ghost use Rattle.std.specs.Prelude.{◌≡◌};
 ghost use Rattle.tabbed_text.specs.Fields.{letter_of};
 
 // A letter that stands for nothing there.
-#[derive(Clone, Copy, PartialEq, Eq)]
+#[derive(Clone, Copy, Debug, PartialEq, Eq)]
 pub struct UnknownLetter;
 
 // The letter, where the field has just one byte.
