@@ -1,6 +1,6 @@
 -- A file that describes a tree that keeps the rules, within the size limit, is read, and the tree read is the one that it
 -- describes.
-use Rattle.std.proofs.Common.{◌≡◌, ℕ, zero, suc, ◌+◌, ◌-◌, ◌^◌, ◌<◌, ◌≤◌, true, false, cond, not, ◌&&◌, eqb, ltb, leb, List, [], ◌∷◌, ◌++◌, map, length, get_or, is_some, Some, None, Ok, Err, decimal, sym, refl, ap, ◌∙◌, subst, ⊎_elim, append_assoc, append-nil, add-zero, zero-add, arith, length-append}
+use Rattle.std.proofs.Common.{◌≡◌, ℕ, zero, suc, ◌+◌, ◌-◌, ◌^◌, ◌<◌, ◌≤◌, true, false, cond, not, ◌&&◌, eqb, leb, List, [], ◌∷◌, ◌++◌, map, length, get_or, is_some, Some, None, Ok, Err, decimal, sym, refl, ap, ◌∙◌, subst, ⊎_elim, append_assoc, append-nil, add-zero, zero-add, arith, length-append}
 use lib.Bits.{bit_or}
 use lib.Count.{ones}
 use lib.ListN.{length-map}
@@ -8,7 +8,8 @@ use Rattle.std.specs.List.{All}
 use Rattle.std.specs.Option.{ok_or}
 use Rattle.std.proofs.lemmas.List.Elements.{All-nil, All-cons, All-head, All-tail, All-map, All-contains, All-from_recursion, Contains-get_or}
 use Rattle.std.proofs.lemmas.List.{get_or_at, get_or-append-add}
-use Rattle.std.proofs.lemmas.Bool.{and_parts, and_from, or_parts, or_from, both_ways, cond-true, cond-false, le-leb, lt-leb, leb-true, ltb-true, eq-eqb, ne_eqb, not-true, cases_lt}
+use Rattle.std.proofs.lemmas.Bool.Decides.{nat_tests}
+use Rattle.std.proofs.lemmas.Bool.{and_parts, and_from, or_parts, or_from, both_ways, cond-true, cond-false, le-leb, lt-leb, leb-true, eq-eqb, ne_eqb, not-true, cases_lt}
 use Rattle.tree.specs.Names.{name_bytes, same_name, name_ok, name_of, well_named, spelled}
 use Rattle.tree.specs.Sets.{has, ◌⊆◌}
 use Rattle.tree.specs.Rules.{part_ok, line_ok, lines_ok, among, names_ok, names_of, keeps_rules}
@@ -224,14 +225,10 @@ number_read low high line field n small lo hi = ap (λ o. up (ok_or o (field_fau
 
 gate_parts : (i set need : ℕ) → line_ok i (gate set need) ≡ true → (set < 2 ^ i) × (ones set ≤ 12) × (0 < ones set → (1 ≤ need) × (need ≤ ones set))
 gate_parts i set need e =
-    let p = and_parts (ltb set (2 ^ i) && leb (ones set) 12) (cond (eqb set 0) (leb need 1) (leb 1 need && leb need (ones set))) e in
-    let q = and_parts (ltb set (2 ^ i)) (leb (ones set) 12) p.0 in (
-      ltb-true set (2 ^ i) q.0,
-      leb-true (ones set) 12 q.1,
-      λ some.
-          let ne : set ≡ 0 → ⊥ = λ z. omega (arith, ap ones z, ones_none) in
-          let c = and_parts (leb 1 need) (leb need (ones set)) (sym (cond-false (eqb set 0) (leb need 1) (leb 1 need && leb need (ones set)) (ne_eqb set 0 ne)) ∙ p.1) in
-          (leb-true 1 need c.0, leb-true need (ones set) c.1),
+    let none = ones_none in (
+      grind (arith, nat_tests),
+      grind (arith, nat_tests),
+      λ some. let ne : set ≡ 0 → ⊥ = λ z. omega (arith, ap ones z, ones_none) in (grind (arith, nat_tests), grind (arith, nat_tests)),
     )
 
 module _ (above : List Row) (r : Row) (kept : line_ok (length above) r.line ≡ true) (named : name_ok r.name ≡ true) (new : first_named 0 above r.name ≡ None)
@@ -258,13 +255,10 @@ module _ (above : List Row) (r : Row) (kept : line_ok (length above) r.line ≡ 
   part_good : (p : Part) → r.line ≡ a_line.Part p → Good above r (spelled r.name ∷ ((69 ∷ []) ∷ part_fields p))
   part_good p is =
       let ok : part_ok p ≡ true = subst (λ l. line_ok (length above) l ≡ true) is kept in
-      let a = and_parts (leb p.rarity 60000 && leb p.class 9 && leb p.discount 1000) (leb p.price 10000000) ok in
-      let b = and_parts (leb p.rarity 60000 && leb p.class 9) (leb p.discount 1000) a.0 in
-      let c = and_parts (leb p.rarity 60000) (leb p.class 9) b.0 in
-      let rarity = leb-true p.rarity 60000 c.0 in
-      let class = leb-true p.class 9 c.1 in
-      let discount = leb-true p.discount 1000 b.1 in
-      let price = leb-true p.price 10000000 a.1 in
+      let rarity : p.rarity ≤ 60000 = grind (arith, nat_tests) in
+      let class : p.class ≤ 9 = grind (arith, nat_tests) in
+      let discount : p.discount ≤ 1000 = grind (arith, nat_tests) in
+      let price : p.price ≤ 10000000 = grind (arith, nat_tests) in
       good 69 a_kind.Part (part_fields p) refl refl
       (four_inner _ _ _ _ (decimal_unparted p.rarity (omega arith)) (decimal_unparted p.class (omega arith)) (decimal_unparted p.discount (omega arith)) (decimal_unparted p.price (omega arith)))
       (λ line.

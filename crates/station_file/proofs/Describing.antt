@@ -1,10 +1,10 @@
 -- A file that is read describes the rows that it gives: each of its lines says its row.
-use Rattle.std.proofs.Common.{◌≡◌, ℕ, zero, suc, ◌+◌, ◌-◌, ◌^◌, ◌<◌, ◌≤◌, Bool, true, false, cond, ◌&&◌, eqb, leb, ◌⊎◌, List, [], ◌∷◌, ◌++◌, map, length, get_or, drop, is_some, Some, None, Ok, decimal, sym, refl, ap, ◌∙◌, subst, ap₂, inl, inr, ⊎_elim, arith}
+use Rattle.std.proofs.Common.{◌≡◌, ℕ, zero, suc, ◌+◌, ◌^◌, ◌<◌, ◌≤◌, Bool, true, false, cond, ◌&&◌, eqb, leb, ◌⊎◌, List, [], ◌∷◌, ◌++◌, map, length, get_or, drop, is_some, Some, None, Ok, sym, refl, ap, ◌∙◌, subst, ap₂, inl, inr, ⊎_elim, arith}
 use lib.Bits.{bit_or}
 use Rattle.std.specs.List.{Contains}
 use Rattle.std.proofs.lemmas.List.Elements.{Contains-get_or}
 use Rattle.std.proofs.lemmas.List.{append-nil, append_assoc, length-map}
-use Rattle.std.proofs.lemmas.Bool.{and_parts, both_ways, eqb-true, leb-true, or_parts}
+use Rattle.std.proofs.lemmas.Bool.{and_parts, both_ways, eqb-true, or_parts}
 use Rattle.tree.specs.Names.{well_named, name_of, name_bytes, same_name, spelled}
 use Rattle.tree.specs.Sets.{has}
 use Rattle.tree.specs.declared.line.Line.{Line}
@@ -13,8 +13,7 @@ use Rattle.tree.specs.declared.line.Row.{Row}
 use Rattle.tree.proofs.Sets.{has_or, has_none, has_one, only_one, or_in, in_left, in_right}
 use Rattle.tree.proofs.Spelling.{spelled_name}
 use Rattle.tabbed_text.specs.Fields.{pieces, tabbed, lines_of}
-use Rattle.tabbed_text.proofs.Chains.{refused, went, ok_some, cond_some, allowed, not_refused, letter_else}
-use Rattle.tabbed_text.proofs.Numerals.{number_written}
+use Rattle.tabbed_text.proofs.Chains.{refused, went, ok_some, cond_some, not_refused, letter_else}
 use Rattle.tabbed_text.proofs.Splitting.{Ends, first_line, lines_split, no_lines, tabbed_pieces}
 use Rattle.station_file.specs.Descriptions.{spelled_at, Lists, Says, part, all_of, any_of, vote_of, always, never, DescribesAfter, Describes}
 use Rattle.station_file.specs.Faults.{up}
@@ -22,7 +21,7 @@ use Rattle.station_file.specs.Files.{read_rows, read_file}
 use Rattle.station_file.specs.Letters.{kind_of}
 use Rattle.station_file.specs.Names.{name_from, first_named, line_named}
 use Rattle.station_file.specs.Records.{kind_field, name_field, new_name, number_field, child_field, children, part_numbers, part_body, all_body, any_body, vote_fields, vote_body, bare_body, body, row_of, record_of}
-use Rattle.station_file.proofs.Keeping.{up_ok, child_is, counted_ok}
+use Rattle.station_file.proofs.Keeping.{up_ok, number_says, file_lines, child_is, counted_ok}
 use Rattle.station_file.specs.declared.letters.Kind.{Kind}
 use Rattle.station_file.specs.declared.letters.Kind.TheVariants.{Part, And, Or, AtLeast, Always, Never}
 
@@ -43,10 +42,6 @@ kind_letter (b ∷ []) k e = ap (λ x. x ∷ [])
     letter_else letter b Or k _ (eqb b 79) refl e (λ e. letter_else letter b AtLeast k _ (eqb b 86) refl e (λ e.
     letter_else letter b Always k _ (eqb b 84) refl e (λ e. letter_else letter b Never k _ (eqb b 70) refl e (λ e. cc)))))))
 kind_letter (b ∷ (d ∷ bs)) k e = cc
-
-number_field_says : (low high line field : ℕ) (bs : List ℕ) (n : ℕ) → high < 2 ^ 64 → up (number_field low high line field bs) ≡ Ok n → bs ≡ decimal n
-number_field_says low high line field bs n small e =
-    (number_written low high bs n small (ok_some _ _ n (up_ok (number_field low high line field bs) n e))).0
 
 name_says : (bs : List ℕ) → well_named bs ≡ true → spelled (name_of bs) ≡ bs
 name_says bs e = spelled_name bs (and_parts _ (name_bytes bs) e).1
@@ -215,10 +210,10 @@ module _ (line : ℕ) (rows : List Row) (n : Name) where
       let w₂ = went (up (number_field 0 9 line 4 c)) _ l w₁.next in
       let w₃ = went (up (number_field 0 1000 line 5 d)) _ l w₂.next in
       let w₄ = went (up (number_field 0 10000000 line 6 p)) _ l w₃.next in
-      let e₁ = number_field_says 0 60000 line 3 r w₁.first (omega arith) w₁.was in
-      let e₂ = number_field_says 0 9 line 4 c w₂.first (omega arith) w₂.was in
-      let e₃ = number_field_says 0 1000 line 5 d w₃.first (omega arith) w₃.was in
-      let e₄ = number_field_says 0 10000000 line 6 p w₄.first (omega arith) w₄.was in
+      let e₁ = (number_says 0 60000 line 3 r w₁.first (omega arith) w₁.was).0 in
+      let e₂ = (number_says 0 9 line 4 c w₂.first (omega arith) w₂.was).0 in
+      let e₃ = (number_says 0 1000 line 5 d w₃.first (omega arith) w₃.was).0 in
+      let e₄ = (number_says 0 10000000 line 6 p w₄.first (omega arith) w₄.was).0 in
       part (record { rarity = w₁.first; class = w₂.first; discount = w₃.first; price = w₄.first }) (cc w₄.next) (cc)
 
   part_body_says : (fs : List (List ℕ)) (l : Line) → part_body line fs ≡ Ok l → Said Part fs l
@@ -248,7 +243,7 @@ module _ (line : ℕ) (rows : List Row) (n : Name) where
   vote_fields_says (f ∷ fs) l low high e =
       let w = went (up (number_field 1 (length fs) line 3 f)) _ l e in
       let v = went (children line 4 rows 0 fs) _ l w.next in
-      let need = number_field_says 1 (length fs) line 3 f w.first (omega arith) w.was in
+      let need = (number_says 1 (length fs) line 3 f w.first (omega arith) w.was).0 in
       let m = children_list line 4 rows fs v.first v.was in
       vote_of m.cs v.first w.first (omega (arith, m.count)) m.lists (cc v.next) (ap₂ (λ g gs. spelled n ∷ ((86 ∷ []) ∷ (g ∷ gs))) need m.named)
 
@@ -329,9 +324,6 @@ lines_describe above (fs ∷ ls) bs out (inr last) is e =
 
 pub read_describes : (bs : List ℕ) (rows : List Row) → read_file bs ≡ Ok rows → Describes bs rows × (length bs ≤ 16384)
 read_describes bs rows e =
-    let size = allowed (leb 1 (length bs) && leb (length bs) 16384) _ _ rows e in
-    let end = allowed (eqb (get_or bs (length bs - 1) 0) 10) _ _ rows size.1 in
-    let m = lines_describe [] (lines_of bs) bs rows (inr (eqb-true _ 10 end.0)) refl end.1 in (
-      subst (DescribesAfter [] bs) (sym m.is) m.described,
-      leb-true (length bs) 16384 (and_parts (leb 1 (length bs)) (leb (length bs) 16384) size.0).1,
-    )
+    let f = file_lines bs rows e in
+    let m = lines_describe [] (lines_of bs) bs rows (inr f.2) refl f.3 in
+    (subst (DescribesAfter [] bs) (sym m.is) m.described, f.1)

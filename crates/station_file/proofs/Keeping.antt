@@ -1,9 +1,10 @@
 -- What is read from a station file keeps the rules of tree lines.
-use Rattle.std.proofs.Common.{◌≡◌, ℕ, suc, ◌+◌, ◌-◌, ◌^◌, ◌<◌, ◌≤◌, true, false, not, ◌&&◌, eqb, leb, List, [], ◌∷◌, ◌++◌, map, length, get_or, drop, is_some, Some, None, Ok, Err, Option, Result, sym, refl, ap, ◌∙◌, subst, ⊎_elim, zero-add, arith, length-append}
+use Rattle.std.proofs.Common.{◌≡◌, ℕ, suc, ◌+◌, ◌-◌, ◌^◌, ◌<◌, ◌≤◌, true, false, not, ◌&&◌, eqb, leb, List, [], ◌∷◌, ◌++◌, map, length, get_or, drop, is_some, Some, None, Ok, Err, decimal, Option, Result, sym, refl, ap, ◌∙◌, subst, ⊎_elim, zero-add, arith, length-append}
 use lib.Bits.{bit_or}
 use lib.Count.{ones}
 use lib.ListN.{length-map}
-use Rattle.std.proofs.lemmas.Bool.{and_parts, and_from, or_parts, or_from, cond_both, cond-false, lt-ltb, le-leb, leb-true, leb-false, eqb-true, ne_eqb, not_from_false, not-true, both_ways}
+use Rattle.std.proofs.lemmas.Bool.{and_parts, and_from, or_parts, or_from, cond_both, leb-false, not_from_false, not-true, both_ways}
+use Rattle.std.proofs.lemmas.Bool.Decides.{nat_tests}
 use Rattle.std.proofs.lemmas.List.{map_push}
 use Rattle.std.specs.List.{onto_first}
 use Rattle.tree.specs.Names.{same_name, name_ok, name_of, well_named}
@@ -16,9 +17,9 @@ use Rattle.tree.specs.declared.line.Row.{Row}
 use Rattle.tree.proofs.Sets.{has_none, only_one, or_in, one_more, ones_none, below_lt}
 use Rattle.tree.proofs.Spelling.{same_sym, name_spelled_ok}
 use Rattle.tabbed_text.specs.Fields.{pieces, ended, lines_of}
-use Rattle.tabbed_text.specs.Numbers.{numeral, value, number_in}
 use Rattle.tabbed_text.specs.Questions.{then}
 use Rattle.tabbed_text.proofs.Chains.{refused, went, ok_some, cond_some, not_refused, allowed}
+use Rattle.tabbed_text.proofs.Numerals.{number_written}
 use Rattle.station_file.specs.Faults.{up}
 use Rattle.station_file.specs.Names.{name_from, first_named, line_named}
 use Rattle.station_file.specs.Records.{kind_field, name_field, new_name, number_field, child_field, children, gate, counted, part_numbers, part_body, all_body, any_body, vote_fields, vote_body, bare_body, body, row_of, record_of}
@@ -35,14 +36,9 @@ up_ok (Err x) a e = refused _ a (Err x ≡ Ok a) e
 
 -- ---- parts
 
-number_within : (low high line field : ℕ) (bs : List ℕ) (n : ℕ) → up (number_field low high line field bs) ≡ Ok n → (low ≤ n) × (n ≤ high)
-number_within low high line field bs n e =
-    let s = ok_some (number_in low high bs) _ n (up_ok (number_field low high line field bs) n e) in
-    let p = cond_some (numeral bs && leb low (value bs) && leb (value bs) high) (value bs) n s in
-    let q = and_parts (numeral bs && leb low (value bs)) (leb (value bs) high) p.0 in
-    let lo = leb-true low (value bs) (and_parts (numeral bs) (leb low (value bs)) q.0).1 in
-    let hi = leb-true (value bs) high q.1 in
-    (omega (arith, p.1), omega (arith, p.1))
+-- a number that is read was written, and is within its limits
+pub number_says : (low high line field : ℕ) (bs : List ℕ) (n : ℕ) → high < 2 ^ 64 → up (number_field low high line field bs) ≡ Ok n → (bs ≡ decimal n) × (low ≤ n) × (n ≤ high)
+number_says low high line field bs n small e = number_written low high bs n small (ok_some _ _ n (up_ok (number_field low high line field bs) n e))
 
 part_numbers_ok : (line : ℕ) (r c d p : List ℕ) (l : Line) (i : ℕ) → part_numbers line r c d p ≡ Ok l → line_ok i l ≡ true
 part_numbers_ok line r c d p l i e =
@@ -51,12 +47,11 @@ part_numbers_ok line r c d p l i e =
     let w₃ = went (up (number_field 0 1000 line 5 d)) _ l w₂.next in
     let w₄ = went (up (number_field 0 10000000 line 6 p)) _ l w₃.next in
     let is : a_line.Part (record { rarity = w₁.first; class = w₂.first; discount = w₃.first; price = w₄.first }) ≡ l = cc w₄.next in
-    subst (λ x. line_ok i x ≡ true) is
-    (and_from _ _ (and_from _ _ (and_from _ _
-    (le-leb w₁.first 60000 (number_within 0 60000 line 3 r w₁.first w₁.was).1)
-    (le-leb w₂.first 9 (number_within 0 9 line 4 c w₂.first w₂.was).1))
-    (le-leb w₃.first 1000 (number_within 0 1000 line 5 d w₃.first w₃.was).1))
-    (le-leb w₄.first 10000000 (number_within 0 10000000 line 6 p w₄.first w₄.was).1))
+    let rarity = (number_says 0 60000 line 3 r w₁.first (omega arith) w₁.was).2 in
+    let class = (number_says 0 9 line 4 c w₂.first (omega arith) w₂.was).2 in
+    let discount = (number_says 0 1000 line 5 d w₃.first (omega arith) w₃.was).2 in
+    let price = (number_says 0 10000000 line 6 p w₄.first (omega arith) w₄.was).2 in
+    subst (λ x. line_ok i x ≡ true) is (grind (arith, nat_tests, rarity, class, discount, price))
 
 part_body_ok : (line : ℕ) (fs : List (List ℕ)) (l : Line) (i : ℕ) → part_body line fs ≡ Ok l → line_ok i l ≡ true
 part_body_ok line [] l i e = refused _ l _ e
@@ -109,13 +104,14 @@ none_in P i h = absurd (both_ways (has 0 i) (has_none i) h)
 pub gate_kept : (i set need : ℕ) → Below i set → ones set ≤ 12 → 1 ≤ need → need ≤ ones set → line_ok i (gate set need) ≡ true
 gate_kept i set need low few some high =
     let ne : set ≡ 0 → ⊥ = λ z. omega (arith, ap ones z, ones_none) in
-    and_from _ _ (and_from _ _ (lt-ltb set (2 ^ i) (below_lt i set low)) (le-leb (ones set) 12 few))
-    (cond-false (eqb set 0) (leb need 1) _ (ne_eqb set 0 ne) ∙ and_from _ _ (le-leb 1 need some) (le-leb need (ones set) high))
+    let below = below_lt i set low in
+    grind (arith, nat_tests)
 
 empty_kept : (i need : ℕ) → need ≤ 1 → line_ok i (gate 0 need) ≡ true
 empty_kept i need low =
-    and_from _ _ (and_from _ _ (lt-ltb 0 (2 ^ i) (below_lt i 0 (λ k h. none_in (k < i) k h))) (le-leb (ones 0) 12 (omega (arith, ones_none))))
-    (le-leb need 1 low)
+    let below = below_lt i 0 (λ k h. none_in (k < i) k h) in
+    let none = ones_none in
+    grind (arith, nat_tests)
 
 -- a gate whose need is 1 to the number of its children
 children_kept : (line field need : ℕ) (rows : List Row) (fs : List (List ℕ)) (l : Line)
@@ -131,8 +127,7 @@ pub counted_ok : (low high line : ℕ) (fs : List (List ℕ)) (k : Result Line S
     → (low ≤ length fs) × (length fs ≤ high) × (k ≡ Ok l)
 counted_ok low high line fs k l e =
     let p = allowed (leb low (length fs) && leb (length fs) high) _ k l e in
-    let q = and_parts (leb low (length fs)) (leb (length fs) high) p.0 in
-    (leb-true low (length fs) q.0, leb-true (length fs) high q.1, p.1)
+    (grind (arith, nat_tests), grind (arith, nat_tests), p.1)
 
 all_body_ok : (line : ℕ) (rows : List Row) (fs : List (List ℕ)) (l : Line) → all_body line rows fs ≡ Ok l → line_ok (length rows) l ≡ true
 all_body_ok line rows fs l e =
@@ -148,8 +143,8 @@ vote_fields_ok : (line : ℕ) (rows : List Row) (fs : List (List ℕ)) (l : Line
 vote_fields_ok line rows [] l few e = refused _ l _ e
 vote_fields_ok line rows (n ∷ fs) l few e =
     let w = went (up (number_field 1 (length fs) line 3 n)) _ l e in
-    let p = number_within 1 (length fs) line 3 n w.first w.was in
-    children_kept line 4 w.first rows fs l w.next (omega arith) p.0 p.1
+    let p = number_says 1 (length fs) line 3 n w.first (omega arith) w.was in
+    children_kept line 4 w.first rows fs l w.next (omega arith) p.1 p.2
 
 vote_body_ok : (line : ℕ) (rows : List Row) (fs : List (List ℕ)) (l : Line) → vote_body line rows fs ≡ Ok l → line_ok (length rows) l ≡ true
 vote_body_ok line rows fs l e = let p = counted_ok 2 13 line fs _ l e in vote_fields_ok line rows fs l p.1 p.2
@@ -261,13 +256,12 @@ pub file_lines : (bs : List ℕ) (out : List Row) → read_file bs ≡ Ok out
     → (0 < length bs) × (length bs ≤ 16384) × (get_or bs (length bs - 1) 0 ≡ 10) × (read_rows [] (lines_of bs) ≡ Ok out)
 file_lines bs out e =
     let p = allowed (leb 1 (length bs) && leb (length bs) 16384) _ _ out e in
-    let q = and_parts (leb 1 (length bs)) (leb (length bs) 16384) p.0 in
     let r = allowed (eqb (get_or bs (length bs - 1) 0) 10) _ _ out p.1 in
-    (leb-true 1 (length bs) q.0, leb-true (length bs) 16384 q.1, eqb-true (get_or bs (length bs - 1) 0) 10 r.0, r.1)
+    (grind (arith, nat_tests), grind (arith, nat_tests), grind (arith, nat_tests), r.1)
 
 pub file_keeps : (bs : List ℕ) (out : List Row) → read_file bs ≡ Ok out → keeps_rules out ≡ true
 file_keeps bs out e =
     let f = file_lines bs out e in
     let k = rows_ok [] (lines_of bs) out (refl, refl) (omega arith) f.3 in
     let some = lines_some bs f.0 in
-    and_from _ _ (and_from _ _ (and_from _ _ (le-leb 1 (length out) (omega (arith, k.1))) (le-leb (length out) 64 k.2)) k.0.0) k.0.1
+    grind (arith, nat_tests)

@@ -4,7 +4,7 @@ use Rattle.std.specs.List.{All}
 use Rattle.std.proofs.lemmas.Fmt.{digits_decimal, digits_value-decimal, decimal-digits_value, decimal_digit, decimal_nonempty, first_decimal}
 use Rattle.std.proofs.lemmas.List.Elements.{All-nil, All-cons}
 use Rattle.std.proofs.lemmas.Str.Parse.{IsNumeralModel, numerals_by_fold}
-use Rattle.std.proofs.lemmas.Bool.{and_parts, and_from, cond-true, le-leb, leb-true}
+use Rattle.std.proofs.lemmas.Bool.{and_parts, and_from, cond-true, le-leb}
 use Rattle.std.proofs.lemmas.Bool.Decides.{nat_tests}
 use Rattle.tabbed_text.proofs.Chains.{cond_some}
 use Rattle.tabbed_text.specs.Fields.{separates}
@@ -41,12 +41,11 @@ decimal_numeral bs e h = let d = numeral_digits bs e in decimal-digits_value own
 pub number_written : (low high : ℕ) (bs : List ℕ) (n : ℕ) → high < 2 ^ 64 → number_in low high bs ≡ Some n → (bs ≡ decimal n) × (low ≤ n) × (n ≤ high)
 number_written low high bs n small e =
     let s = cond_some (numeral bs && leb low (value bs) && leb (value bs) high) (value bs) n e in
-    let p = and_parts (numeral bs && leb low (value bs)) (leb (value bs) high) s.0 in
-    let q = and_parts (numeral bs) (leb low (value bs)) p.0 in
-    let lo = leb-true low (value bs) q.1 in
-    let hi = leb-true (value bs) high p.1 in
+    let well : numeral bs ≡ true = grind (arith, nat_tests) in
+    let lo : low ≤ value bs = grind (arith, nat_tests) in
+    let hi : value bs ≤ high = grind (arith, nat_tests) in
     let is = s.1 in
-    (sym (decimal_numeral bs q.0 (omega arith)) ∙ ap decimal is, omega arith, omega arith)
+    (sym (decimal_numeral bs well (omega arith)) ∙ ap decimal is, omega arith, omega arith)
 
 pub written_number : (low high n : ℕ) → high < 2 ^ 64 → low ≤ n → n ≤ high → number_in low high (decimal n) ≡ Some n
 written_number low high n small lo hi =
