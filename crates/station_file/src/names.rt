@@ -44,6 +44,7 @@ pub fn name_of(bytes: &[u8]) -> Option<Name>
     if !is_name(bytes) {
         return None;
     }
+    // At most 12, so that `as` below does not cut it.
     let len = bytes.len();
     let (head, tail) = bytes.split_at(len.min(8));
     Some(Name {

@@ -32,6 +32,7 @@ impl<'a> Writer<'a> {
     pub fn byte(&mut self, b: u8)
         ensures writes_byte { Writes (b ∷ []) self.old self.new }
     {
+        // A test and a write, as `get_mut` would have them.
         if self.at < self.out.len() {
             self.out[self.at] = b;
         }
@@ -69,6 +70,7 @@ impl<'a> Writer<'a> {
         ensures { Writes (unpacked k word) self.old self.new }
     {
         let bytes = word.to_le_bytes();
+        // By number, since k may go past them.
         for i in 0..k {
             self.byte(bytes.get(i).copied().unwrap_or(0));
         }

@@ -62,6 +62,7 @@ impl<'a> Record<'a> {
         requires few { count ≤ 12 }
         ensures { result ≡ vote_fields (line_of self.entry) (rows_above self.entry) (more_fields (remains self.entry.fields)) }
     {
+        // `as`: the check proves that neither number is cut, so that there is no failure to answer.
         let need = self.number(3, 1, count as u32)?;
         self.gate(4, need as u8)
     }

@@ -20,6 +20,7 @@ impl<'a> Record<'a> {
         let class = self.number(4, 0, 9)?;
         let discount = self.number(5, 0, 1_000)?;
         let price = self.number(6, 0, 10_000_000)?;
+        // `as`: within their limits class and discount are not cut, and no failure is left to answer.
         Ok(Line::Part(Part {
             rarity,
             class: class as u8,

@@ -77,6 +77,7 @@ impl<'a> Record<'a> {
         }
         match kind {
             Kind::Part => self.part(),
+            // `as`: at most 12, so that it is not cut.
             Kind::And => self.gate(3, count as u8),
             Kind::Or => self.gate(3, 1),
             Kind::AtLeast => self.vote(count - 1),
