@@ -21,6 +21,7 @@ fn read_rows(bytes: &[u8], rows: &mut ArrayVec<Row, 64>) -> Result<(), StationFa
     ensures rows { rows_or (read_rows [] (lines_of bytes.now)) rows.new.items ≡ rows.new.items }
 {
     let mut fields = Fields::new(bytes);
+    // A walk to the end of the text: no number is counted.
     while !fields.is_done() {
         if rows.is_full() {
             return Err(StationFault::at(rows.len() + 1, 0, StationCause::TooManyLines));

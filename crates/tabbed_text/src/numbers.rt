@@ -3,6 +3,7 @@ ghost use Rattle.std.specs.Prelude.{◌≡◌};
 ghost use Rattle.tabbed_text.specs.Numbers.{number_in};
 
 // The number, where it is well formed and from `low` to `high`; however long the field is, nothing wraps.
+// The limits are two numbers and no range, as the rules name them.
 pub fn number(bytes: &[u8], low: u32, high: u32) -> Option<u32>
     ensures reads_number { result ≡ number_in low high bytes.now }
 {

@@ -1,4 +1,4 @@
-// What a lantern answers as a station tree.
+// What a lantern answers as a station tree. Line and name are alike but in what they take of a row: a function of both would be longer.
 ghost use Rattle.kinds.specs.LanternTrees.{rows_of};
 ghost use Rattle.kinds.specs.LanternRows.{lantern_ruled};
 
