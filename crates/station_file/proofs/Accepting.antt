@@ -6,7 +6,7 @@ use lib.Count.{ones}
 use lib.ListN.{length-map}
 use Rattle.std.specs.List.{All}
 use Rattle.std.specs.Option.{ok_or}
-use Rattle.std.proofs.lemmas.List.Elements.{All-nil, All-cons, All-head, All-tail, All-map, All-contains, All-from_recursion, Contains-get_or}
+use Rattle.std.proofs.lemmas.List.Elements.{All-nil, All-cons, All-head, All-tail, All-map, All-contains, Contains-get_or}
 use Rattle.std.proofs.lemmas.List.{get_or_at, get_or-append-add}
 use Rattle.std.proofs.lemmas.Bool.Decides.{nat_tests}
 use Rattle.std.proofs.lemmas.Bool.{and_parts, and_from, or_parts, or_from, both_ways, cond-true, cond-false, le-leb, lt-leb, leb-true, eq-eqb, ne_eqb, not-true, cases_lt}
@@ -218,7 +218,7 @@ record Good (above : List Row) (r : Row) (fs : List (List ℕ)) : Type 0 where
   reads : (line : ℕ) → record_of line above fs ≡ Ok r
 
 well_unparted : (bs : List ℕ) → well_named bs ≡ true → All Inner bs
-well_unparted bs e = All-from_recursion Inner bs (name_unparted bs (and_parts (leb 1 (length bs) && leb (length bs) 12) (name_bytes bs) e).1)
+well_unparted bs e = name_unparted bs (and_parts (leb 1 (length bs) && leb (length bs) 12) (name_bytes bs) e).1
 
 number_read : (low high line field n : ℕ) → high < 2 ^ 64 → low ≤ n → n ≤ high → up (number_field low high line field (decimal n)) ≡ Ok n
 number_read low high line field n small lo hi = ap (λ o. up (ok_or o (field_fault line field NotNumber))) (written_number low high n small lo hi)

@@ -2,7 +2,8 @@
 -- bytes of a name is that name. Names that are told the same are equal, and no byte of a name parts fields.
 use Rattle.std.proofs.Common.{◌≡◌, ℕ, zero, suc, ◌+◌, ◌-◌, ◌*◌, ◌/◌, ◌%◌, ◌<◌, min, true, false, ◌&&◌, ◌||◌, eqb, List, [], ◌∷◌, ◌++◌, length, take, drop, sym, refl, ap, ◌∙◌, mod-eq_of_lt, zero-add, arith, length-drop, take-append-drop, length-take}
 use native.Mathlib.Nat.{add-mul-mod_self_left, add-mul-div_left, div-eq_of_lt}
-use Rattle.std.specs.List.{AllByRecursion as All}
+use Rattle.std.specs.List.{All}
+use Rattle.std.proofs.lemmas.List.Elements.{All-nil, All-cons}
 use Rattle.std.proofs.lemmas.Bool.{and_parts, and_from, eq-eqb, eqb-true}
 use Rattle.std.proofs.lemmas.Bool.Decides.{nat_tests}
 use Rattle.tree.specs.declared.line.Name.{Name}
@@ -75,7 +76,7 @@ byte_unparted : (b : ℕ) → name_byte b ≡ true → (eqb b 9 || eqb b 10) ≡
 byte_unparted b t = grind (arith, nat_tests)
 
 pub name_unparted : (bs : List ℕ) → name_bytes bs ≡ true → All (λ b. (eqb b 9 || eqb b 10) ≡ false) bs
-name_unparted [] t = tt
+name_unparted [] t = All-nil (λ b. (eqb b 9 || eqb b 10) ≡ false)
 name_unparted (b ∷ bs) t =
     let p = and_parts (name_byte b) (name_bytes bs) t in
-    (byte_unparted b p.0, name_unparted bs p.1)
+    All-cons (λ d. (eqb d 9 || eqb d 10) ≡ false) b bs (byte_unparted b p.0) (name_unparted bs p.1)
