@@ -33,7 +33,7 @@ pub struct TreeFault {
 }
 
 impl TreeLayer {
-    // The number of the refusal: its enum's own, which `as` tells.
+    // The number of the refusal, which is the cause's discriminant.
     pub fn number(self) -> u8
         ensures is_the_number { result ≡ number_of self }
     {

@@ -5,7 +5,7 @@ ghost use Rattle.page.specs.Faults.{page_number, number_of, layer_of, page_fault
 use station_file::faults::{FieldCause, StationCause, StationFault, StationLayer};
 
 // The page layer, by the numbers of its refusals.
-#[derive(Clone, Copy, PartialEq, Eq)]
+#[derive(Clone, Copy, Debug, PartialEq, Eq)]
 pub enum PageCause {
     NoRoom = 31,
     NoOrder = 40,
@@ -13,7 +13,7 @@ pub enum PageCause {
 }
 
 // Where a page's fault arose.
-#[derive(Clone, Copy, PartialEq, Eq)]
+#[derive(Clone, Copy, Debug, PartialEq, Eq)]
 pub enum PageLayer {
     Field(FieldCause),
     Station(StationCause),
@@ -22,7 +22,7 @@ pub enum PageLayer {
 
 // A page that is refused; lines of a station count from 1 without the order line, and line and field are 0 where none
 // is named.
-#[derive(Clone, Copy, PartialEq, Eq)]
+#[derive(Clone, Copy, Debug, PartialEq, Eq)]
 pub struct PageFault {
     pub line: usize,
     pub field: usize,
@@ -30,18 +30,20 @@ pub struct PageFault {
 }
 
 impl PageCause {
-    // The number of the refusal: the enum's own, which `as` tells.
+    // The number of the refusal, which is the cause's discriminant.
     pub fn number(self) -> u64
         ensures is_number { result ≡ page_number self }
     {
         self as u64
     }
+}
 
-    // The fault of that line and field.
-    pub fn at(self, line: usize, field: usize) -> PageFault
-        ensures says_where { result ≡ page_fault line field self }
+impl PageFault {
+    // A fault of the page layer.
+    pub fn at(line: usize, field: usize, cause: PageCause) -> PageFault
+        ensures says_where { result ≡ page_fault line field cause }
     {
-        let layer = PageLayer::Page(self);
+        let layer = PageLayer::Page(cause);
         PageFault { line, field, layer }
     }
 }

@@ -57,20 +57,21 @@ fn order_number(digits: &[u8], field: usize, low: u32, high: u32) -> Result<u32,
     ensures value { result ≡ order_number low high field digits.now }
     ensures within { IfOk result (λ n. n ≤ high) }
 {
-    number(digits, low, high).ok_or(PageCause::OrderField.at(1, field))
+    number(digits, low, high).ok_or(PageFault::at(1, field, PageCause::OrderField))
 }
 
 fn criterion_field(field: &[u8]) -> Result<Criterion, PageFault>
     ensures { result ≡ criterion_field field.now }
 {
     let criterion = letter(field).and_then(|letter| Criterion::try_from(letter).ok());
-    criterion.ok_or(PageCause::OrderField.at(1, 3))
+    criterion.ok_or(PageFault::at(1, 3, PageCause::OrderField))
 }
 
+// The next field of the line, of which the caller has counted the fields.
 fn next_field<'a>(fields: &mut Fields<'a>) -> Result<&'a [u8], PageFault>
-    ensures value { MatchResult result (λ f. more_fields (remains fields.old) ≡ f.now ∷ more_fields (remains fields.new)) (λ f. more_fields (remains fields.old) ≡ []) }
+    ensures value { MatchResult result (λ f. more_fields (remains fields.old) ≡ f.now ∷ more_fields (remains fields.new)) (λ _. more_fields (remains fields.old) ≡ []) }
 {
-    fields.next().ok_or(PageCause::NoOrder.at(1, 0))
+    fields.next().ok_or(PageFault::at(1, 0, PageCause::NoOrder))
 }
 
 // The order of a line by its fields.
@@ -78,12 +79,13 @@ fn next_field<'a>(fields: &mut Fields<'a>) -> Result<&'a [u8], PageFault>
 fn order_line(mut fields: Fields) -> Result<Order, PageFault>
     ensures { result ≡ order_line (fields_of (remains fields.entry)) }
 {
-    let year = fields.first();
+    let first = fields.first();
     if fields.left() != 3 {
-        return Err(PageCause::NoOrder.at(1, 0));
+        return Err(PageFault::at(1, 0, PageCause::NoOrder));
     }
-    let year = order_number(year, 1, 0, 10)?;
+    let year = order_number(first, 1, 0, 10)?;
     let growth = order_number(next_field(&mut fields)?, 2, 0, 200)?;
+    // Both numbers were read within the limits that terms ask.
     let Ok(terms) = Terms::new(year, growth) else {
         unreachable!()
     };
@@ -102,7 +104,7 @@ fn read_order(input: &[u8]) -> Result<Order, PageFault>
     ensures decides { DecidesTask input.now result }
 {
     if !has_line(input) {
-        return Err(PageCause::NoOrder.at(1, 0));
+        return Err(PageFault::at(1, 0, PageCause::NoOrder));
     }
     order_line(Fields::new(input))
 }
@@ -110,6 +112,7 @@ fn read_order(input: &[u8]) -> Result<Order, PageFault>
 // Reads the order line and the station file after it, which fills the tree; where either is refused, the tree stays as
 // it is.
 pub fn read_task(input: &[u8], tree: &mut ReadTree) -> Result<Order, PageFault>
+    ensures orders_within_limits { IfOk result (λ o. (o.terms.year ≤ 10) × (o.terms.growth ≤ 200)) }
     ensures answers_by_the_questions { result ≡ order_told (task_read input.now) }
     ensures fills_the_tree { rows_of tree.new ≡ rows_told (task_read input.now) (rows_of tree.old) }
     ensures tells_what_is_read { MatchResult result (λ o. task_read input.now ≡ Ok (o, rows_of tree.new)) (λ f. task_read input.now ≡ Err f) }

@@ -36,5 +36,5 @@ pub fn write_refused(fault: PageFault, out: &mut [u8]) -> Result<usize, PageFaul
     ensures answers_length { result ≡ answered (Ok (refused_line fault)) out.old }
     ensures writes_refused_line { out.new ≡ left_in (Ok (refused_line fault)) out.old }
 {
-    write_whole(&fault, out).ok_or(PageCause::NoRoom.at(0, 0))
+    write_whole(&fault, out).ok_or(PageFault::at(0, 0, PageCause::NoRoom))
 }

@@ -60,7 +60,7 @@ fn put_parts(w: &mut Writer, tree: &ReadTree, terms: Terms) -> u64
     ensures total { result ≡ total_cost terms.year terms.growth (rows_of tree.now) }
 {
     let mut total = 0;
-    // By number, as a tree is asked.
+    // By number: so every station tree is asked for its lines.
     for i in 0..tree.count() {
         if let Some(charged) = charged_at(tree, i, terms) {
             put_charge(w, charged);
@@ -94,5 +94,5 @@ pub fn charge_sheet(input: &[u8], out: &mut [u8]) -> Result<usize, PageFault>
         tree: &tree,
         terms: order.terms,
     };
-    write_whole(&sheet, out).ok_or(PageCause::NoRoom.at(0, 0))
+    write_whole(&sheet, out).ok_or(PageFault::at(0, 0, PageCause::NoRoom))
 }

@@ -31,6 +31,7 @@ by_number_lawful counted join j =
       grows = λ a b. le-leb a (join a b) (j.grows a b);
     }
 
+-- the two families by name: every ranking by a sum, and the one by the largest class
 pub summed_lawful : (counted : Part → ℕ → ℕ) → Lawful (summed counted)
 summed_lawful counted = by_number_lawful counted stopped stopped_lawful
 

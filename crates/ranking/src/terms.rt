@@ -5,7 +5,8 @@ ghost use Rattle.ranking.specs.Terms.{asked, terms_number};
 
 use std::marker::Model;
 
-// The year, counted from the year of the list price, and the growth of prices per mille a year.
+// The year, counted from the year of the list price, and the growth of prices per mille a year. Clauses see what terms say, so
+// that a definition can name terms; that both keep their limits holds of all terms, and `year` and `growth` tell it.
 #[derive(Clone, Copy, PartialEq, Eq)]
 pub struct Terms {
     year: u32,

@@ -46,7 +46,7 @@ pub struct StationFault {
 }
 
 impl FieldCause {
-    // The number of the refusal: the enum's own, which `as` tells.
+    // The number of the refusal, which is the cause's discriminant.
     pub fn number(self) -> u64
         ensures is_number { result ≡ field_number self }
     {
@@ -55,7 +55,7 @@ impl FieldCause {
 }
 
 impl StationCause {
-    // The number of the refusal: the enum's own, which `as` tells.
+    // The number of the refusal, which is the cause's discriminant.
     pub fn number(self) -> u64
         ensures is_number { result ≡ station_number self }
     {

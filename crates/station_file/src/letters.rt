@@ -34,7 +34,7 @@ impl TryFrom<char> for Kind {
 
 impl Kind {
     // Whether a record of that kind has so many fields after its letter.
-    pub fn has(self, count: usize) -> bool
+    pub fn takes(self, count: usize) -> bool
         ensures { result ≡ has_count self count }
     {
         match self {
@@ -46,7 +46,8 @@ impl Kind {
     }
 }
 
-// The kind of record that a second field says.
+// The kind of record that a second field says. An order's letter is read alike; a function of both would have to speak of
+// any conversion from a letter.
 pub fn record_kind(field: &[u8]) -> Option<Kind>
     ensures { result ≡ kind_of field.now }
 {

@@ -3,7 +3,7 @@ ghost use Rattle.std.specs.Prelude.{◌≡◌};
 ghost use Rattle.tabbed_text.specs.Numbers.{number_in};
 
 // The number, where it is well formed and from `low` to `high`; however long the field is, nothing wraps.
-// The limits are two numbers and no range, as the rules name them.
+// Limits are two arguments: a range would be no plainer, since each caller writes two literals.
 pub fn number(bytes: &[u8], low: u32, high: u32) -> Option<u32>
     ensures reads_number { result ≡ number_in low high bytes.now }
 {
@@ -18,8 +18,5 @@ pub fn number(bytes: &[u8], low: u32, high: u32) -> Option<u32>
         let digit = u32::from(*b - b'0');
         n = n.checked_mul(10)?.checked_add(digit)?;
     }
-    if n < low || n > high {
-        return None;
-    }
-    Some(n)
+    (low..=high).contains(&n).then_some(n)
 }

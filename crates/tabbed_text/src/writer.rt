@@ -32,7 +32,7 @@ impl<'a> Writer<'a> {
     pub fn byte(&mut self, b: u8)
         ensures writes_byte { Writes (b ∷ []) self.old self.new }
     {
-        // A test and a write, as `get_mut` would have them.
+        // By place: `get_mut` would hide the same test and leave the write to prove.
         if self.at < self.out.len() {
             self.out[self.at] = b;
         }
@@ -64,7 +64,7 @@ impl<'a> Writer<'a> {
         self.word(name.tail, len.saturating_sub(8));
     }
 
-    // The lowest k bytes of a word, which has eight that may differ from 0.
+    // The lowest k bytes of a word; those past its eight are 0.
     #[tactic(auto, using(crate::proofs::Placing::one_after_another, crate::proofs::Words::word_bytes))]
     fn word(&mut self, word: u64, k: usize)
         ensures { Writes (unpacked k word) self.old self.new }

@@ -28,7 +28,8 @@ pub enum Line {
     Gate(Gate),
 }
 
-// Up to twelve bytes, the first lowest: eight in `head`, the others in `tail`.
+// Up to twelve bytes, the first lowest: eight in `head`, the others in `tail`. By a rule of the project a name is plain
+// numbers, so that an Option of one holds no array.
 #[derive(Clone, Copy, PartialEq, Eq)]
 pub struct Name {
     pub head: u64,
@@ -73,6 +74,7 @@ impl Default for Line {
     }
 }
 
+// The name of the one line that a tree has before it is filled.
 impl Default for Name {
     ghost is_default = { λ n. n ≡ first_name };
 

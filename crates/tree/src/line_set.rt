@@ -1,4 +1,5 @@
-// A set of lines is a 64-bit word: bit i stands for line i. A word has no bit for a line from the 64th on.
+// A set of lines is a 64-bit word: bit i stands for line i. A word has no bit for a line from the 64th on. By a rule of the
+// project sets are plain words, and these are functions over them and no methods of a type.
 ghost use Rattle.std.specs.Prelude.{◌≡◌, ℕ, ◌&&◌, ◌||◌, ◌≢◌, MatchOption, ◌==◌, bit_or, count_ones, nat_lt};
 ghost use Rattle.orders.specs.Orders.{Total};
 ghost use Rattle.tree.specs.Sets.{has as has_line, alone, ◌⊆◌, within, Counts, Tells, Highest, set_le, ComesFirst};
@@ -47,7 +48,7 @@ pub fn is_within(a: u64, b: u64) -> bool
     a & !b == 0
 }
 
-// `as` in this file widens a count of bits: std has no From between u32 and usize.
+// The highest line of a set that has one. (`as` here and below: std has no From between u32 and usize.)
 fn top_line(set: u64) -> usize
     requires { set ≢ 0 }
     ensures { Highest set result }

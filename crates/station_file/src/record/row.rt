@@ -72,7 +72,7 @@ impl<'a> Record<'a> {
         ensures { result ≡ body_of (line_of self.entry) (rows_above self.entry) kind (more_fields (remains self.entry.fields)) }
     {
         let count = self.fields.left();
-        if !kind.has(count) {
+        if !kind.takes(count) {
             return Err(self.fault(0, StationCause::FieldCount));
         }
         match kind {

@@ -41,10 +41,7 @@ fn line_len(bytes: &[u8]) -> usize
     ensures within { result ≤ length bytes.now }
     ensures value { drop result bytes.now ≡ after 10 bytes.now }
 {
-    match newline(bytes) {
-        Some(i) => i + 1,
-        None => bytes.len(),
-    }
+    newline(bytes).map_or(bytes.len(), |i| i + 1)
 }
 
 impl<'a> Fields<'a> {
