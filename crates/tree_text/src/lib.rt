@@ -1,8 +1,8 @@
 // Names, lines and sets of lines as text, for programs that print them.
 #![tactic(auto)]
 
-ghost use Rattle.std.specs.Prelude.{◌≡◌, Some, IfSome};
-ghost use Rattle.tree.specs.Names.{spelled};
+ghost use Rattle.std.specs.Prelude.{◌≡◌, true, Some, is_some, IfSome};
+ghost use Rattle.tree.specs.Names.{spelled, name_ok};
 ghost use Rattle.tree_text.specs.Texts.{set_text, line_text};
 
 use std::fmt;
@@ -14,6 +14,7 @@ use tree::line_set::has;
 #[derive(Clone, Copy, PartialEq, Eq)]
 pub struct SetText(pub u64);
 
+// `Line` and `Name` do not print themselves: they lie in `tree`, below the writer that spells a name.
 #[derive(Clone, Copy, PartialEq, Eq)]
 pub struct LineText(pub Line);
 
@@ -69,9 +70,10 @@ impl fmt::Display for NameText {
 }
 
 // The text of a name, over its lent bytes. A name that keeps its rules has one: it is of ASCII bytes, at most twelve.
-#[tactic(auto, using(crate::proofs::Texts::written_read))]
+#[tactic(auto, using(crate::proofs::Texts::written_read, crate::proofs::Texts::name_short, crate::proofs::Texts::name_utf8))]
 fn text_of(name: Name, bytes: &mut [u8; 12]) -> Option<&str>
-    ensures { IfSome result (λ text. text.now ≡ spelled name) }
+    ensures spells_the_name { IfSome result (λ text. text.now ≡ spelled name) }
+    ensures every_good_name_has_one { name_ok name ≡ true → is_some result ≡ true }
 {
     let mut w = Writer::new(bytes);
     w.name(name);
