@@ -1,3 +1,4 @@
+-- By hand: given the lemma by its name, the search does not find a record that is asked for every set of lines.
 use Rattle.choices.proofs.Choosing.{choosing}
 use Rattle.choices.proofs.count.Goals as goal
 
