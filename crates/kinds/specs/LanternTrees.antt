@@ -6,14 +6,14 @@ use Rattle.kinds.specs.Lanterns.{in_limits, lantern_rows, dark_tiers}
 use Rattle.kinds.specs.declared.lantern.Lantern.{Lantern}
 
 abbrev pub rows_of : Lantern → List Row
-rows_of l = lantern_rows l.tiers l.lamps l.lamp_need l.tier_need l.part
+rows_of l = lantern_rows l.design.tiers l.design.lamps l.design.lamp_need l.design.tier_need l.design.part
 
 -- whether at least `tier_need` tiers have at least `lamp_need` of their lamps among the failed parts s
 abbrev pub dark : Lantern → ℕ → Bool
-dark l s = nat_le l.tier_need (dark_tiers l.tiers l.lamps l.lamp_need s)
+dark l s = nat_le l.design.tier_need (dark_tiers l.design.tiers l.design.lamps l.design.lamp_need s)
 
 abbrev pub values_of : Lantern → ℕ × ℕ × ℕ × ℕ × Part
-values_of l = (l.tiers, l.lamps, l.lamp_need, l.tier_need, l.part)
+values_of l = (l.design.tiers, l.design.lamps, l.design.lamp_need, l.design.tier_need, l.design.part)
 
 -- the values of the lantern, where they keep the limits, or what the refusal says
 abbrev pub asked_lantern : (t p q r : ℕ) → Part → Result (ℕ × ℕ × ℕ × ℕ × Part) (ℕ × ℕ × ℕ × ℕ)

@@ -28,13 +28,17 @@ in_limits t p q r part = (need_ok q p && need_ok r t) && (nat_le (t * p + t + 1)
 abbrev pub run : ℕ → ℕ → ℕ
 run i n = (2 ^ n - 1) * 2 ^ i
 
+-- a gate over those lines
+abbrev pub gate_over : (i n need : ℕ) → Line
+gate_over i n need = line.Gate (record { children = run i n; need = need })
+
 -- tier a
 abbrev pub tier_line : (p q a : ℕ) → Line
-tier_line p q a = line.Gate (record { children = run (a * p) p; need = q })
+tier_line p q a = gate_over (a * p) p q
 
 -- the top
 abbrev pub last_line : (t p r : ℕ) → Line
-last_line t p r = line.Gate (record { children = run (t * p) t; need = r })
+last_line t p r = gate_over (t * p) t r
 
 -- a letter and the line number in two digits
 abbrev pub numbered : ℕ → ℕ → Name

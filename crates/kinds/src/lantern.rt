@@ -8,7 +8,8 @@ mod answers;
 mod lines;
 mod making;
 
-// What a lantern is to be, whether or not there is such a lantern.
+// What a lantern is to be, whether or not there is such a lantern: tiers of lamps, all lamps alike. A tier is dark when
+// at least `lamp_need` of its lamps have failed, the lantern when at least `tier_need` of its tiers are dark.
 #[derive(Clone, Copy, PartialEq, Eq)]
 pub struct Design {
     pub tiers: u32,
@@ -20,14 +21,9 @@ pub struct Design {
     pub part: Part,
 }
 
-// Tiers of lamps, all lamps alike: a tier is dark when at least `lamp_need` of its lamps have failed, the lantern when at
-// least `tier_need` of its tiers are dark. Every lantern keeps the limits: no other can be made.
+// A design that keeps the limits: no other lantern can be made.
 #[derive(Clone, Copy, PartialEq, Eq)]
 pub struct Lantern {
-    tiers: u8,
-    lamps: u8,
-    lamp_need: u8,
-    tier_need: u8,
-    part: Part,
-    ghost within: { in_limits tiers lamps lamp_need tier_need part ≡ true },
+    design: Design,
+    ghost within: { in_limits design.tiers design.lamps design.lamp_need design.tier_need design.part ≡ true },
 }

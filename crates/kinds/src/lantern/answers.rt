@@ -1,4 +1,5 @@
-// What a lantern answers as a station tree. Line and name are alike but in what they take of a row: a function of both would be longer.
+// What a lantern answers as a station tree.
+// Line and name are alike but in what they take of a row: a function of both would be longer.
 ghost use Rattle.kinds.specs.LanternTrees.{rows_of};
 ghost use Rattle.kinds.specs.LanternRows.{lantern_ruled};
 
@@ -9,7 +10,7 @@ use tree::station_tree::Tree;
 impl Tree for Lantern {
     ghost meaning = { rows_of };
 
-    ghost ruled = { λ l. lantern_ruled l.tiers l.lamps l.lamp_need l.tier_need l.part l.within };
+    ghost ruled = { λ l. lantern_ruled l.design.tiers l.design.lamps l.design.lamp_need l.design.tier_need l.design.part l.within };
 
     fn count(&self) -> usize {
         self.lines()

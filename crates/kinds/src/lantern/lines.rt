@@ -2,7 +2,7 @@
 ghost use Rattle.std.specs.Prelude.{◌≡◌, ℕ, ◌+◌, ◌*◌, ◌<◌, ◌≤◌, length};
 ghost use Rattle.std.specs.List.{slice_get};
 ghost use Rattle.tree.specs.Holding.{top as top_line, holds};
-ghost use Rattle.kinds.specs.Lanterns.{run, numbered, tier_line, last_line, lantern_row};
+ghost use Rattle.kinds.specs.Lanterns.{run, gate_over, numbered, tier_line, last_line, lantern_row};
 ghost use Rattle.kinds.specs.LanternTrees.{rows_of, dark};
 
 use crate::lantern::Lantern;
@@ -15,7 +15,7 @@ impl Lantern {
         ensures is_top { result ≡ top_line (rows_of self.now) }
         ensures holds_when_enough_tiers_are_dark { (s : ℕ) → holds (rows_of self.now) s result ≡ dark self.now s }
     {
-        self.all_lamps() + usize::from(self.tiers)
+        self.all_lamps() + self.tiers()
     }
 
     // How many lines there are.
@@ -30,10 +30,24 @@ impl Lantern {
     // How many lamps there are: the first tier's line number.
     #[tactic(auto, using(crate::specs::LanternLimits::limits))]
     fn all_lamps(&self) -> usize
-        ensures value { result ≡ self.now.tiers * self.now.lamps }
-        ensures small { result + self.now.tiers < 64 }
+        ensures value { result ≡ self.now.design.tiers * self.now.design.lamps }
+        ensures small { result + self.now.design.tiers < 64 }
     {
-        usize::from(self.tiers) * usize::from(self.lamps)
+        self.tiers() * self.lamps()
+    }
+
+    // `as` here and below, since `usize` has no `From` of 32 bits.
+    fn tiers(&self) -> usize
+        ensures { result ≡ self.now.design.tiers }
+    {
+        self.design.tiers as usize
+    }
+
+    // In each tier.
+    fn lamps(&self) -> usize
+        ensures { result ≡ self.now.design.lamps }
+    {
+        self.design.lamps as usize
     }
 
     // Line i with its name.
@@ -47,12 +61,12 @@ impl Lantern {
     #[tactic(auto, using(crate::proofs::LanternLaws::lantern_length, crate::specs::LanternRows::lamp_row, crate::specs::LanternRows::tier_row, crate::specs::LanternRows::last_row))]
     fn made_row(&self, i: usize) -> Row
         requires { i < 64 }
-        ensures { result ≡ lantern_row self.now.tiers self.now.lamps self.now.lamp_need self.now.tier_need self.now.part i }
+        ensures { result ≡ lantern_row self.now.design.tiers self.now.design.lamps self.now.design.lamp_need self.now.design.tier_need self.now.design.part i }
     {
         let first_tier = self.all_lamps();
         if i < first_tier {
             Row {
-                line: Line::Part(self.part),
+                line: Line::Part(self.design.part),
                 name: numbered(b'L', i),
             }
         } else if i < self.top() {
@@ -69,40 +83,48 @@ impl Lantern {
     }
 
     // Tier a: a gate over its lamps.
+    #[tactic(auto, using(crate::specs::LanternLimits::limits))]
     fn tier(&self, a: usize) -> Line
-        requires { a < self.now.tiers }
-        ensures { result ≡ tier_line self.now.lamps self.now.lamp_need a }
+        requires { a < self.now.design.tiers }
+        ensures { result ≡ tier_line self.now.design.lamps self.now.design.lamp_need a }
     {
-        Line::Gate(Gate {
-            children: run(self.first_lamp(a), self.lamps),
-            need: self.lamp_need,
-        })
+        gate(self.first_lamp(a), self.lamps(), self.design.lamp_need)
     }
 
     // The line number of tier a's first lamp.
     #[tactic(auto, using(crate::specs::LanternLimits::limits, crate::specs::LanternLimits::tier_fits))]
     fn first_lamp(&self, a: usize) -> usize
-        requires { a < self.now.tiers }
-        ensures value { result ≡ a * self.now.lamps }
-        ensures small { result + self.now.lamps < 64 }
+        requires { a < self.now.design.tiers }
+        ensures value { result ≡ a * self.now.design.lamps }
+        ensures small { result + self.now.design.lamps < 64 }
     {
-        a * usize::from(self.lamps)
+        a * self.lamps()
     }
 
     // The top: a gate over the tiers.
+    #[tactic(auto, using(crate::specs::LanternLimits::limits))]
     fn last(&self) -> Line
-        ensures { result ≡ last_line self.now.tiers self.now.lamps self.now.tier_need }
+        ensures { result ≡ last_line self.now.design.tiers self.now.design.lamps self.now.design.tier_need }
     {
-        Line::Gate(Gate {
-            children: run(self.all_lamps(), self.tiers),
-            need: self.tier_need,
-        })
+        gate(self.all_lamps(), self.tiers(), self.design.tier_need)
     }
 }
 
-// The set of the count lines from line first on.
+// A gate over the count lines from line first on. A need of a lantern is at most 12, so that `as` does not cut it.
+fn gate(first: usize, count: usize, need: u32) -> Line
+    requires below_line_64 { first + count < 64 }
+    requires small_need { need ≤ 12 }
+    ensures { result ≡ gate_over first count need }
+{
+    Line::Gate(Gate {
+        children: run(first, count),
+        need: need as u8,
+    })
+}
+
+// The set of those lines.
 #[tactic(auto, using(crate::proofs::LanternLaws::shifted))]
-fn run(first: usize, count: u8) -> u64
+fn run(first: usize, count: usize) -> u64
     requires { first + count < 64 }
     ensures { result ≡ run first count }
 {

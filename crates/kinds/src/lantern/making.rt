@@ -42,14 +42,7 @@ impl TryFrom<Design> for Lantern {
         if !design.keeps_limits() {
             return Err(TreeLayer::Lantern(LanternCause::OutOfLimits).into());
         }
-        // Each number is at most 12 here, so that none is cut.
-        Ok(Lantern {
-            tiers: design.tiers as u8,
-            lamps: design.lamps as u8,
-            lamp_need: design.lamp_need as u8,
-            tier_need: design.tier_need as u8,
-            part: design.part,
-        })
+        Ok(Lantern { design })
     }
 }
 
