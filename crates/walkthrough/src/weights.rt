@@ -106,7 +106,7 @@ fn count_of(rt: &HostRuntime, m: usize, q: usize) -> io::Result<()> {
     }
 }
 
-// As charge_lamp over other cases, which a function of both would have to be handed with what it prints.
+// A loop as in charge_lamp. One function of both would take the cases and the printing as arguments, and be longer.
 pub fn count_choices(rt: &HostRuntime) -> io::Result<()> {
     for (m, q) in [(0, 0), (3, 2), (2, 3), (12, 6), (13, 1)] {
         count_of(rt, m, q)?;

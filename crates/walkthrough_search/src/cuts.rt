@@ -10,6 +10,7 @@ use tree::line::Part;
 use tree::station_tree::Tree;
 use tree_text::SetText;
 
+// The lamp of the other walkthrough: two programs share nothing but a library, where a sample has no place.
 const LAMP: Part = Part {
     rarity: 2000,
     class: 3,

@@ -1,4 +1,5 @@
-// Goes through cut sets of a lantern and of a fixing of it, and through the heap in which a search will wait; prints each call with its answer.
+// Goes through cut sets of a lantern and of a fixing of it, and through the heap in which a search will wait;
+// prints each call with its answer.
 #![tactic(auto)]
 
 mod cuts;
