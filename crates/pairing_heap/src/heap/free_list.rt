@@ -40,6 +40,7 @@ pub(super) fn free_all<O: Order>(nodes: &mut [Node<O::Item>], count: usize) -> L
     ensures law { (bound : ℕ) → LeastFirst O.le bound }
 {
     let mut free = Link::NONE;
+    // By index, as the index is what is linked, and a node is read field by field and written whole.
     for i in 0..count {
         release(nodes, i, free);
         free = Link::to(i);
