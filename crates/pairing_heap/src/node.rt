@@ -4,9 +4,10 @@ ghost use Rattle.pairing_heap.specs.Index.{largest};
 
 use std::marker::Model;
 
-// A link to a node, or to none: in clauses, an Option of the node's index; in memory, one word, the largest for none. An Option<usize>
-// takes two, and then the sort of random numbers took 2.50 times the instructions of a binary heap, where at most 2 are wanted.
-#[derive(Clone, Copy)]
+// A link to a node, or to none: in clauses, an Option of the node's index; in memory, one word, the largest for none. An
+// Option<usize> takes two, and then the sort of random numbers took 2.50 times the instructions of a binary heap, where at
+// most 2 are wanted.
+#[derive(Clone, Copy, Debug, PartialEq, Eq)]
 pub struct Link {
     index: usize,
 }
@@ -49,7 +50,7 @@ impl Link {
 }
 
 // A node of the heap's tree, with its first child and its next sibling; or one of the free list, with the next of it.
-#[derive(Clone, Copy)]
+#[derive(Clone, Copy, Debug, PartialEq, Eq)]
 pub struct Node<E> {
     pub item: E,
     pub child: Link,
