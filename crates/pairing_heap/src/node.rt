@@ -26,6 +26,18 @@ impl Model for Link {
     ghost inverse_ok = { λ l h. kept_seen l };
 }
 
+impl From<usize> for Link {
+    ghost use Rattle.std.specs.Prelude.{◌≡◌};
+    ghost use Rattle.pairing_heap.specs.Index.{seen};
+
+    ghost from_gives = { λ n l. l ≡ seen (record { index = n }) };
+
+    // A link to the node at an index; the largest index, which no slice reaches, means none.
+    fn from(index: usize) -> Link {
+        Link { index }
+    }
+}
+
 impl Link {
     pub const NONE: Link = Link { index: usize::MAX };
 
@@ -34,7 +46,7 @@ impl Link {
         requires { index < largest }
         ensures { result ≡ Some index }
     {
-        Link { index }
+        Link::from(index)
     }
 
     // The index of the node, if there is one.
