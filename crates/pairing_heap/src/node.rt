@@ -53,11 +53,7 @@ impl Link {
     pub fn get(self) -> Option<usize>
         ensures answers_where_it_leads { result ≡ self }
     {
-        if self.index == usize::MAX {
-            None
-        } else {
-            Some(self.index)
-        }
+        (self.index != usize::MAX).then_some(self.index)
     }
 }
 
