@@ -37,7 +37,6 @@ impl TryFrom<Design> for Lantern {
 
     ghost try_from_gives = { λ d made. result_map_both values_of told made ≡ asked_lantern d.tiers d.lamps d.lamp_need d.tier_need d.part };
 
-    #[tactic(auto, using(crate::specs::LanternLimits::limits))]
     fn try_from(design: Design) -> Result<Lantern, TreeFault> {
         if !design.keeps_limits() {
             return Err(TreeLayer::Lantern(LanternCause::OutOfLimits).into());
