@@ -36,6 +36,7 @@ fn told<F: Fn(usize, u64) -> bool>(count: usize, test: F) -> u64
     ensures { (f : ℕ → ℕ → Bool) → ((i below : ℕ) (r : Bool) → F.post test i below r → r ≡ f i below) → result ≡ told f count }
 {
     let mut set = 0;
+    // By number: the test is asked of each line, with the set so far.
     for i in 0..count {
         if test(i, set) {
             set |= alone(i);
