@@ -1,0 +1,104 @@
+// The choices of exactly `need` of a gate's children, one after the other.
+ghost use Rattle.std.specs.Prelude.{◌≡◌, ℕ, ◌<◌, ◌≤◌, ◌⊎◌, MatchOption, length, slice_index, count_ones};
+ghost use Rattle.std.specs.Iterator.{YieldsFirst, item_count};
+ghost use Rattle.tree.specs.Sets.{Below};
+ghost use Rattle.choices.specs.Counts.{binom, choices};
+ghost use Rattle.lister.specs.WordChoices.{choices_in};
+
+use choices::count;
+use std::marker::Model;
+use tree::line::Gate;
+use tree::line_set::{alone, highest, size};
+
+// How many choices of exactly `need` lines a set of at most twelve has.
+fn choices_of(set: u64, need: usize) -> u32
+    requires few_lines { count_ones set ≤ 12 }
+    requires few_needed { need ≤ 12 }
+    ensures { result ≡ binom (count_ones set) need }
+{
+    count(size(set) as usize, need).unwrap()
+}
+
+// The choice at a place of their list. So many choices leave the highest child out as there are of the other children; those
+// come first, and the others have it.
+fn choice_at(children: u64, need: usize, place: u32) -> u64
+    requires few_children { count_ones children ≤ 12 }
+    requires few_needed { need ≤ 12 }
+    requires there { place < binom (count_ones children) need }
+    ensures { result ≡ slice_index (choices_in children need) place }
+{
+    let mut rest = children;
+    let mut need = need;
+    let mut place = place;
+    let mut chosen = 0;
+    while let Some(child) = highest(rest) {
+        let highest_child = alone(child);
+        rest ^= highest_child;
+        let without = choices_of(rest, need);
+        if place >= without {
+            place -= without;
+            need -= 1;
+            chosen |= highest_child;
+        }
+    }
+    chosen
+}
+
+// In clauses, the list of the choices that are left.
+#[derive(Drop)]
+pub struct Choices {
+    children: u64,
+    need: usize,
+    // how many are taken
+    taken: u32,
+}
+
+impl Model for Choices {
+    ghost use Rattle.std.specs.Prelude.{ℕ, ◌≤◌, List, drop, count_ones};
+    ghost use Rattle.lister.specs.WordChoices.{choices_in};
+
+    ghost Value = { List ℕ };
+
+    ghost view = { λ c. drop c.taken (choices_in c.children c.need) };
+
+    ghost invariant = { λ c. (count_ones c.children ≤ 12) × (c.need ≤ 12) };
+}
+
+impl Iterator for Choices {
+    type Item = u64;
+
+    ghost next_gives = { YieldsFirst (λ left. left) };
+
+    ghost remaining = { item_count (λ left. left) };
+
+    #[tactic(auto, using(crate::proofs::ListedChoices::none_left, crate::proofs::ListedChoices::next_left))]
+    fn next(&mut self) -> Option<u64> {
+        if self.taken >= choices_of(self.children, self.need) {
+            return None;
+        }
+        let choice = choice_at(self.children, self.need, self.taken);
+        self.taken += 1;
+        Some(choice)
+    }
+}
+
+impl Choices {
+    // The choices of exactly `need` of the gate's children, in ascending order as words. They are not counted, and there is no answer,
+    // where there are more than twelve children or more than twelve are needed.
+    #[tactic(auto, using(crate::proofs::ListedChoices::choices_word, crate::proofs::ListedChoices::number_word))]
+    pub fn of(gate: Gate) -> Option<Choices>
+        ensures lists_the_choices { MatchOption result ((12 < count_ones gate.children) ⊎ (12 < gate.need))
+            (λ left. (n : ℕ) → Below n gate.children → left ≡ choices gate.children n gate.need) }
+        ensures counts_the_choices { MatchOption result ((12 < count_ones gate.children) ⊎ (12 < gate.need)) (λ left. length left ≡ binom (count_ones gate.children) gate.need) }
+    {
+        let need = usize::from(gate.need);
+        if size(gate.children) > 12 || need > 12 {
+            return None;
+        }
+        Some(Choices {
+            children: gate.children,
+            need,
+            taken: 0,
+        })
+    }
+}

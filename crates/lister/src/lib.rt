@@ -1,0 +1,4 @@
+// The steps of the waiting rule, in code.
+#![tactic(auto)]
+
+pub mod choosing;
