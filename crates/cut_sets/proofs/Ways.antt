@@ -98,13 +98,13 @@ module _ (rows : List Row) (k : keeps_rules rows ≡ true) (w : Way) (kinds : Ki
 
 -- ---- the order of ways
 
-same_way : (w v : Way) → w.chosen ≡ v.chosen → w.gates ≡ v.gates → w ≡ v
+pub same_way : (w v : Way) → w.chosen ≡ v.chosen → w.gates ≡ v.gates → w ≡ v
 same_way w v p q i = record { chosen = p i; gates = q i }
 
 by_lines : Total (lex lowest_chosen lowest_gate)
 by_lines = keyed_total (λ w. w.chosen) (λ w. w.gates) set_le set_le set_order set_order same_way
 
-by_size : Total size_then_lines
+pub by_size : Total size_then_lines
 by_size =
     lex_total fewer_chosen (lex open_first (lex lowest_chosen lowest_gate)) (by_ranked (λ w. ones w.chosen) leb leb_total.ranked)
     (lex_total open_first (lex lowest_chosen lowest_gate) (by_ranked finished leb leb_total.ranked) by_lines)

@@ -1,5 +1,6 @@
 -- The waiting rule, as one works it by hand: which ways wait, which sets have been given, and what a step makes of them.
-use Rattle.std.specs.Prelude.{◌≡◌, ℕ, ◌+◌, ◌^◌, ◌<◌, ◌≤◌, Bool, true, false, ◌||◌, List, [], ◌∷◌, ◌++◌, map, length, bit_and, bit_or, bit_xor}
+use Rattle.std.specs.Prelude.{◌≡◌, ℕ, ◌+◌, ◌^◌, ◌<◌, ◌≤◌, Bool, true, false, List, [], ◌∷◌, ◌++◌, map, length, bit_and, bit_or, bit_xor}
+use Rattle.std.specs.List.{list_any}
 use Rattle.orders.specs.Sorted.{insert_all}
 use Rattle.tree.specs.Holding.{the_line, top}
 use Rattle.tree.specs.Sets.{alone, within, Highest}
@@ -23,8 +24,7 @@ search_of ws sets = record { waiting = ws; given = sets }
 
 -- whether a whole set of the list is within s
 abbrev pub some_within : List ℕ → ℕ → Bool
-some_within [] s = false
-some_within (g ∷ gs) s = within g s || some_within gs s
+some_within sets s = list_any (λ g. within g s) sets
 
 -- the lines of c added to a way, the parts as chosen and the gates as open
 abbrev pub adding : List Row → Way → ℕ → Way
