@@ -1,1 +1,3 @@
 pub mod ListedChoices
+pub mod Adding
+pub mod Weighed

@@ -1,16 +1,14 @@
 -- The choices of a set, by its highest line: first those that leave it out, then those that have it.
-use Rattle.std.proofs.Common.{◌≡◌, ℕ, zero, suc, ◌+◌, ◌-◌, ◌^◌, ◌<◌, ◌≤◌, Bool, true, false, cond, ltb, ◌≢◌, ◌⊎◌, List, [], ◌∷◌, ◌++◌, map, length, drop, get_or, sym, refl, ap, ◌∙◌, subst, ap₂, ⊎_elim, arith, drop-cons, add-one}
+use Rattle.std.proofs.Common.{◌≡◌, ℕ, zero, suc, ◌+◌, ◌-◌, ◌^◌, ◌<◌, ◌≤◌, false, cond, [], ◌∷◌, ◌++◌, map, length, drop, get_or, sym, refl, ap, ◌∙◌, subst, ap₂, ⊎_elim, arith, drop-cons, add-one}
 use lib.Bits.{bit_or, bit_xor, or_zero_l, or_zero_r}
 use lib.Count.{ones}
-use lib.ListN.{length-map}
 use Rattle.std.proofs.lemmas.Bool.{both_ways, lt-ltb, cases_lt}
-use Rattle.std.proofs.lemmas.Bool.Decides.{nat_tests}
 use Rattle.std.proofs.lemmas.Nat.{xor_lt}
 use Rattle.std.proofs.lemmas.List.{append-nil, drop_all, get_or_append_left, get_or-append-add, get_or-map}
 use Rattle.std.proofs.Math.Pow.{pow-lt}
 use Rattle.tree.specs.Sets.{has, alone, Below, Highest}
 use Rattle.tree.proofs.Holding.{lt_below}
-use Rattle.tree.proofs.Sets.{no_test, same_set, has_none, has_xor, has_or, has_pow, has_one, without, apart, one_more, ones_none, empty, has_past, has_le, below_lt}
+use Rattle.tree.proofs.Sets.{no_test, same_set, has_xor, has_or, has_pow, without, one_more, ones_none, has_le, below_lt}
 use Rattle.choices.specs.Counts.{binom, choices}
 use Rattle.choices.proofs.Choosing.{number}
 use Rattle.lister.specs.WordChoices.{choices_in}

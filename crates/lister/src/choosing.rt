@@ -102,3 +102,26 @@ impl Choices {
         })
     }
 }
+
+#[cfg(test)]
+mod tests {
+    use super::*;
+
+    #[test]
+    fn choices_in_order(rt: HostRuntime) {
+        let gate = Gate {
+            children: 0b1101,
+            need: 2,
+        };
+        let mut listed = [0; 3];
+        for (place, choice) in listed.iter_mut().zip(Choices::of(gate).unwrap()) {
+            *place = choice;
+        }
+        assert_eq!(rt; listed, [0b0101, 0b1001, 0b1100]);
+        let wide = Gate {
+            children: 0x1fff,
+            need: 2,
+        };
+        assert!(rt; Choices::of(wide).is_none());
+    }
+}

@@ -2,3 +2,5 @@
 #![tactic(auto)]
 
 pub mod choosing;
+pub mod plan;
+pub mod waiting;
