@@ -4,3 +4,4 @@ pub mod Told
 pub mod Holding
 pub mod Words
 pub mod Lowest
+pub mod Members

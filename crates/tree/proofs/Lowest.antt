@@ -13,7 +13,7 @@ lt_pow : (n : ℕ) → n < 2 ^ n
 lt_pow zero = omega arith
 lt_pow (suc n) = omega (arith, lt_pow n)
 
-low_there : (k x : ℕ) → x ≢ 0 → x < 2 ^ k → has x (count_trailing_zeros k x) ≡ true
+pub low_there : (k x : ℕ) → x ≢ 0 → x < 2 ^ k → has x (count_trailing_zeros k x) ≡ true
 unfolding count_trailing_zeros
 low_there zero x n h = absurd (omega arith)
 low_there (suc k) x n h = go (x % 2) refl (low_there k (x / 2))
@@ -22,7 +22,7 @@ low_there (suc k) x n h = go (x % 2) refl (low_there k (x / 2))
     go zero e ih = has_suc x (count_trailing_zeros k (x / 2)) ∙ ih (omega arith) (omega arith)
     go (suc d) e ih = has_zero x ∙ eq-eqb (x % 2) 1 (omega arith)
 
-low_none : (k x j : ℕ) → j < count_trailing_zeros k x → has x j ≡ false
+pub low_none : (k x j : ℕ) → j < count_trailing_zeros k x → has x j ≡ false
 unfolding count_trailing_zeros
 low_none zero x j h = absurd (omega arith)
 low_none (suc k) x j h = go (x % 2) j refl (low_none k (x / 2)) h

@@ -1,7 +1,8 @@
 -- A set of lines is a number: its bit i stands for line i. No definition here fixes how many bits a set has,
--- but for `alone`, which says which lines a word of the machine can have.
-use Rattle.std.specs.Prelude.{◌≡◌, ℕ, suc, ◌/◌, ◌%◌, ◌^◌, ◌<◌, Bool, true, false, cond, ◌||◌, ◌≢◌, ◌==◌, bit_and, bit_or, bit_xor, nat_lt}
+-- but for `alone` and `lines_of`, which say which lines a word of the machine can have.
+use Rattle.std.specs.Prelude.{◌≡◌, ℕ, zero, suc, ◌/◌, ◌%◌, ◌^◌, ◌<◌, Bool, true, false, cond, ◌||◌, ◌≢◌, ◌↔◌, List, [], ◌∷◌, ◌++◌, ◌==◌, bit_and, bit_or, bit_xor, nat_lt}
 use Rattle.std.specs.Int.Count.{count_trailing_zeros}
+use Rattle.orders.specs.Lists.{In, Rising}
 
 unfoldable pub has : ℕ → ℕ → Bool
 has s i = s / 2 ^ i % 2 == 1
@@ -22,6 +23,20 @@ within s t = bit_and s t == s
 -- every line of s is below line n
 abbrev pub Below : ℕ → ℕ → Type 0
 Below n s = (i : ℕ) → has s i ≡ true → i < n
+
+-- the lines of s below line n, from the lowest on
+unfoldable pub lines_below : ℕ → ℕ → List ℕ
+lines_below s zero = []
+lines_below s (suc n) = lines_below s n ++ cond (has s n) (n ∷ []) []
+
+-- the lines of a word of the machine
+unfoldable pub lines_of : ℕ → List ℕ
+lines_of s = lines_below s 64
+
+-- the list has each line of s, and each once: they ascend
+pub record ListsLines (s : ℕ) (is : List ℕ) : Type 0 where
+  pub members : (i : ℕ) → In i is ↔ (has s i ≡ true)
+  pub ascending : Rising (λ i j. i < j) is
 
 -- a count of lines: none of the empty set, and one more for each line that a set does not have yet
 pub record Counts (count : ℕ → ℕ) : Type 0 where

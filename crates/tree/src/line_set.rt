@@ -1,8 +1,11 @@
 // A set of lines is a 64-bit word: bit i stands for line i. A word has no bit for a line from the 64th on. By a rule of the
 // project sets are plain words, and these are functions over them and no methods of a type.
 ghost use Rattle.std.specs.Prelude.{◌≡◌, ℕ, ◌&&◌, ◌||◌, ◌≢◌, MatchOption, ◌==◌, bit_or, count_ones, nat_lt};
+ghost use Rattle.std.specs.Iterator.{YieldsFirst, item_count};
 ghost use Rattle.orders.specs.Orders.{Total};
-ghost use Rattle.tree.specs.Sets.{has as has_line, alone, ◌⊆◌, within, Counts, Tells, Highest, set_le, ComesFirst};
+ghost use Rattle.tree.specs.Sets.{has as has_line, alone, ◌⊆◌, within, Counts, Tells, Highest, set_le, ComesFirst, lines_of, ListsLines};
+
+use std::marker::Model;
 
 // Whether the set has line i.
 #[tactic(auto, using(crate::proofs::Words::has_word, crate::proofs::Words::none_past))]
@@ -71,4 +74,47 @@ pub fn comes_first(a: u64, b: u64) -> bool
     ensures total_order { Total set_le }
 {
     a == b || has(a, (a ^ b).trailing_zeros() as usize)
+}
+
+// The lines of a set, from the lowest on. In clauses, the list of those that are left.
+#[derive(Drop)]
+pub struct Lines {
+    rest: u64,
+}
+
+impl Model for Lines {
+    ghost use Rattle.std.specs.Prelude.{ℕ, List};
+    ghost use Rattle.tree.specs.Sets.{lines_of};
+
+    ghost Value = { List ℕ };
+
+    ghost view = { λ lines. lines_of lines.rest };
+}
+
+impl Iterator for Lines {
+    type Item = usize;
+
+    ghost next_gives = { YieldsFirst (λ left. left) };
+
+    ghost remaining = { item_count (λ left. left) };
+
+    #[tactic(auto, using(crate::proofs::Members::no_line, crate::proofs::Members::first_line))]
+    fn next(&mut self) -> Option<usize> {
+        if self.rest == 0 {
+            return None;
+        }
+        let line = self.rest.trailing_zeros() as usize;
+        self.rest ^= alone(line);
+        Some(line)
+    }
+}
+
+impl Lines {
+    #[tactic(auto, using(crate::proofs::Members::lists_lines))]
+    pub fn of(set: u64) -> Lines
+        ensures are_the_lines_of_the_set { result ≡ lines_of set }
+        ensures lists_each_line_once { ListsLines set result }
+    {
+        Lines { rest: set }
+    }
 }
