@@ -1,19 +1,23 @@
 -- Lines added to a way, one after the other.
-use Rattle.std.proofs.Common.{◌≡◌, ℕ, ◌^◌, ◌<◌, ◌≤◌, Bool, true, false, cond, not, List, [], ◌∷◌, length, Some, None, sym, refl, ap, ◌∙◌, subst, ap₂, zero, suc, arith}
-use lib.Bits.{bit_and, bit_or, bit_xor, or_zero_r}
+use Rattle.std.proofs.Common.{◌≡◌, ℕ, ◌^◌, ◌<◌, ◌≤◌, Bool, true, false, cond, not, List, [], ◌∷◌, ◌++◌, length, Some, None, sym, refl, ap, ◌∙◌, subst, ap₂, ⊎_elim, zero, suc, arith}
+use lib.Bits.{bit_and, bit_or, or_zero_r}
+use lib.ListN.{length-map}
 use Rattle.std.specs.List.{slice_get}
-use Rattle.std.proofs.lemmas.Bool.{lt-ltb}
+use Rattle.std.proofs.lemmas.Option.{slice_get_within}
+use Rattle.std.proofs.lemmas.List.{append-nil}
+use Rattle.std.proofs.lemmas.Bool.{lt-ltb, le-ltb, cases_lt}
 use Rattle.std.proofs.lemmas.Bool.Decides.{nat_tests}
-use Rattle.tree.specs.Holding.{the_line}
+use Rattle.tree.specs.Holding.{the_line, told}
 use Rattle.tree.specs.Lines.{part_line}
-use Rattle.tree.specs.Sets.{has, alone, Highest}
+use Rattle.tree.specs.Sets.{has, alone, lines_below, lines_of}
 use Rattle.tree.specs.declared.line.Part.{Part}
 use Rattle.tree.specs.declared.line.Gate.{Gate}
 use Rattle.tree.specs.declared.line.Line.{Line}
 use Rattle.tree.specs.declared.line.Line.TheVariants as line
 use Rattle.tree.specs.declared.line.Row.{Row}
 use Rattle.tree.proofs.Holding.{lt_below}
-use Rattle.tree.proofs.Sets.{same_set, has_none, has_and, has_or, has_xor, has_pow}
+use Rattle.tree.proofs.Told.{told_below, told_is}
+use Rattle.tree.proofs.Sets.{same_set, same_lines, has_none, has_and, has_or, has_pow}
 use Rattle.ranking.specs.Models.{Model, Lawful}
 use Rattle.ranking.specs.Weights.{weigh}
 use Rattle.ranking.proofs.Weights.{one_more}
@@ -22,7 +26,6 @@ use Rattle.cut_sets.specs.WaitingRule.{adding}
 use Rattle.cut_sets.specs.declared.way.Way.{Way}
 use Rattle.cut_sets.proofs.Cuts.{that_is, that_below}
 use Rattle.cut_sets.proofs.Ways.{same_way}
-use Rattle.lister.proofs.ListedChoices.{alone_is}
 use Rattle.lister.specs.Plans.{rows_of, LineCharged, ChargedBy}
 use Rattle.lister.specs.declared.plan.ChargedRow.{ChargedRow}
 
@@ -32,12 +35,6 @@ module _ (rows : List Row) (w : Way) where
 
   pub adding_two : (a b c : ℕ) → ((j : ℕ) → has c j ≡ has (bit_or a b) j) → adding rows (adding rows w a) b ≡ adding rows w c
   adding_two a b c e = same_way _ _ (same_set _ _ (λ j. grind (arith, has_or, has_and, e j))) (same_set _ _ (λ j. grind (arith, has_or, has_and, e j)))
-
-  -- the highest line of a choice, and then the others
-  pub adding_highest : (s i a : ℕ) → Highest s i → s < 18446744073709551616 → a ≡ alone i → adding rows (adding rows w (alone i)) (bit_xor s a) ≡ adding rows w s
-  adding_highest s i a top small e =
-      let is = alone_is s i small top in
-      adding_two (alone i) (bit_xor s a) s (λ j. grind (arith, nat_tests, has_or, has_xor, has_pow, top.there))
 
   -- one line
   adding_line : (i : ℕ) (b : Bool) (test : Line → Bool) (s : ℕ) → i < length rows → test (the_line rows i) ≡ b → bit_or s (bit_and (2 ^ i) (lines_that test rows)) ≡ bit_or s (cond b (2 ^ i) 0)
@@ -55,17 +52,52 @@ module _ (rows : List Row) (w : Way) where
   pub adding_past : (i : ℕ) → length rows ≤ i → adding rows w (2 ^ i) ≡ w
   adding_past i l = same_way _ w (no_line i part_line w.chosen l) (no_line i (λ l. not (part_line l)) w.gates l)
 
+-- ---- one line after another
+
+alone_word : (i : ℕ) → i < 64 → alone i ≡ 2 ^ i
+alone_word i l = ap (λ b. cond b (2 ^ i) 0) (lt-ltb i 64 l)
+
+alone_none : (i : ℕ) → 64 ≤ i → alone i ≡ 0
+alone_none i l = ap (λ b. cond b (2 ^ i) 0) (le-ltb i 64 l)
+
+abbrev pub add_all : List Row → Way → List ℕ → Way
+add_all rows w [] = w
+add_all rows w (i ∷ is) = add_all rows (adding rows w (alone i)) is
+
+add_end : (rows : List Row) (w : Way) (is : List ℕ) (i : ℕ) → add_all rows w (is ++ (i ∷ [])) ≡ adding rows (add_all rows w is) (alone i)
+add_end rows w [] i = refl
+add_end rows w (j ∷ js) i = add_end rows (adding rows w (alone j)) js i
+
+-- the lines of s below n
+under : ℕ → ℕ → ℕ
+under s n = told (λ i below. has s i) n
+
+add_below : (rows : List Row) (w : Way) (s n : ℕ) → n ≤ 64 → add_all rows w (lines_below s n) ≡ adding rows w (under s n)
+unfolding lines_below under told
+add_below rows w s zero l = sym (adding_none rows w 0 refl)
+add_below rows w s (suc n) l = go (has s n) (add_below rows w s n (omega arith))
+  where
+    go : (b : Bool) → add_all rows w (lines_below s n) ≡ adding rows w (under s n) → add_all rows w (lines_below s n ++ cond b (n ∷ []) []) ≡ adding rows w (bit_or (under s n) (cond b (2 ^ n) 0))
+    go true h =
+        add_end rows w (lines_below s n) n ∙ ap (λ v. adding rows v (alone n)) h
+        ∙ adding_two rows w (under s n) (alone n) (bit_or (under s n) (2 ^ n)) (λ j. ap (λ x. has (bit_or (under s n) x) j) (sym (alone_word n l)))
+    go false h = ap (add_all rows w) (append-nil (lines_below s n)) ∙ h ∙ ap (adding rows w) (sym (or_zero_r (under s n)))
+
+pub adding_lines : (rows : List Row) (w : Way) (s : ℕ) → s < 18446744073709551616 → add_all rows w (lines_of s) ≡ adding rows w s
+unfolding lines_of under
+adding_lines rows w s small = add_below rows w s 64 (omega arith) ∙ ap (adding rows w) (same_lines _ s (λ i e. sym (told_is (λ i below. has s i) 64 i (told_below (λ i below. has s i) 64 i e)) ∙ e) (λ i e. told_is (λ i below. has s i) 64 i (lt_below 64 s small i e) ∙ e))
+
 -- ---- by the row of a line
 
-here : (rows : List ChargedRow) (i : ℕ) (r : ChargedRow) → slice_get rows i ≡ Some r → (i < length (rows_of rows)) × (the_line (rows_of rows) i ≡ r.row.line)
+here : (rows : List ChargedRow) (i : ℕ) (r : ChargedRow) → slice_get rows i ≡ Some r → the_line (rows_of rows) i ≡ r.row.line
 here [] i r e = let z : ◌≡◌ {A = ℕ} 0 1 = cc in absurd (omega arith)
-here (x ∷ xs) zero r e = (omega arith, cc)
-here (x ∷ xs) (suc i) r e = let (l, k) = here xs i r e in (omega arith, k)
+here (x ∷ xs) zero r e = cc
+here (x ∷ xs) (suc i) r e = here xs i r e
 
-gone : (rows : List ChargedRow) (i : ℕ) → slice_get rows i ≡ None → length (rows_of rows) ≤ i
-gone [] i e = omega arith
-gone (x ∷ xs) zero e = let z : ◌≡◌ {A = ℕ} 0 1 = cc in absurd (omega arith)
-gone (x ∷ xs) (suc i) e = omega (arith, gone xs i e)
+past : (rows : List ChargedRow) (i : ℕ) → slice_get rows i ≡ None → length (rows_of rows) ≤ i
+past [] i e = omega arith
+past (x ∷ xs) zero e = let z : ◌≡◌ {A = ℕ} 0 1 = cc in absurd (omega arith)
+past (x ∷ xs) (suc i) e = omega (arith, past xs i e)
 
 charged : (charge_of : Part → ℕ) (rows : List ChargedRow) (i : ℕ) (r : ChargedRow) (p : Part) → ChargedBy charge_of rows → slice_get rows i ≡ Some r → r.row.line ≡ line.Part p → charge_of p ≡ r.charge
 charged charge_of [] i r p h e l = let z : ◌≡◌ {A = ℕ} 0 1 = cc in absurd (omega arith)
@@ -76,30 +108,31 @@ charged charge_of (x ∷ xs) zero r p h e l =
     cc
 charged charge_of (x ∷ xs) (suc i) r p h e l = charged charge_of xs i r p h.1 e l
 
-pub line_in_word : (s i : ℕ) → s < 18446744073709551616 → Highest s i → i < 64
-line_in_word s i w top = lt_below 64 s w i top.there
-
-in_word : (i : ℕ) → i < 64 → 2 ^ i ≡ alone i
-in_word i l = sym (ap (λ b. cond b (2 ^ i) 0) (lt-ltb i 64 l))
-
-module _ (rows : List ChargedRow) (w : Way) (i a : ℕ) (l : i < 64) (is : a ≡ alone i) where
+module _ (rows : List ChargedRow) (w : Way) (i a : ℕ) (is : a ≡ alone i) where
   pub row_none : slice_get rows i ≡ None → adding (rows_of rows) w a ≡ w
-  row_none e = ap (adding (rows_of rows) w) (is ∙ sym (in_word i l)) ∙ adding_past (rows_of rows) w i (gone rows i e)
+  row_none e = ⊎_elim
+      (λ l. ap (adding (rows_of rows) w) (is ∙ alone_word i l) ∙ adding_past (rows_of rows) w i (past rows i e))
+      (λ g. adding_none (rows_of rows) w a (is ∙ alone_none i g))
+      (cases_lt i 64)
 
-  pub row_gate : (r : ChargedRow) (g : Gate) → slice_get rows i ≡ Some r → r.row.line ≡ line.Gate g → adding (rows_of rows) w a ≡ record { chosen = w.chosen; gates = bit_or w.gates a }
-  row_gate r g e k = let (low, at) = here rows i r e in subst (λ x. adding (rows_of rows) w x ≡ record { chosen = w.chosen; gates = bit_or w.gates x }) (in_word i l ∙ sym is) (adding_gate (rows_of rows) w i g low (at ∙ k))
+  module _ (r : ChargedRow) (e : slice_get rows i ≡ Some r) (l : i < 64) where
+    low : i < length (rows_of rows)
+    low = let n = length-map rows (λ r. r.row) in let k = slice_get_within rows i r e in omega arith
 
-  pub row_part : (r : ChargedRow) (p : Part) → slice_get rows i ≡ Some r → r.row.line ≡ line.Part p → adding (rows_of rows) w a ≡ record { chosen = bit_or w.chosen a; gates = w.gates }
-  row_part r p e k = let (low, at) = here rows i r e in subst (λ x. adding (rows_of rows) w x ≡ record { chosen = bit_or w.chosen x; gates = w.gates }) (in_word i l ∙ sym is) (adding_part (rows_of rows) w i p low (at ∙ k))
+    pub row_gate : (g : Gate) → r.row.line ≡ line.Gate g → adding (rows_of rows) w a ≡ record { chosen = w.chosen; gates = bit_or w.gates a }
+    row_gate g k = subst (λ x. adding (rows_of rows) w x ≡ record { chosen = w.chosen; gates = bit_or w.gates x }) (sym (is ∙ alone_word i l)) (adding_gate (rows_of rows) w i g low (here rows i r e ∙ k))
 
-  pub row_chosen : (r : ChargedRow) (p : Part) → slice_get rows i ≡ Some r → r.row.line ≡ line.Part p → has w.chosen i ≡ true → adding (rows_of rows) w a ≡ w
-  row_chosen r p e k h = row_part r p e k ∙ same_way _ w (same_set _ _ (λ j. grind (arith, nat_tests, has_or, has_pow, is, in_word))) refl
+    module _ (p : Part) (k : r.row.line ≡ line.Part p) where
+      pub row_part : adding (rows_of rows) w a ≡ record { chosen = bit_or w.chosen a; gates = w.gates }
+      row_part = subst (λ x. adding (rows_of rows) w x ≡ record { chosen = bit_or w.chosen x; gates = w.gates }) (sym (is ∙ alone_word i l)) (adding_part (rows_of rows) w i p low (here rows i r e ∙ k))
 
-  pub row_weighed : {W : Type 0} (m : Model W) → Lawful m → (charge_of : Part → ℕ) (weight : W) (r : ChargedRow) (p : Part)
-      → slice_get rows i ≡ Some r → r.row.line ≡ line.Part p → has w.chosen i ≡ false
-      → ChargedBy charge_of rows → weight ≡ weigh m charge_of (rows_of rows) w.chosen
-      → m.join weight (m.of_part p r.charge) ≡ weigh m charge_of (rows_of rows) (bit_or w.chosen a)
-  row_weighed m law charge_of weight r p e k h by carried =
-      ap₂ (λ x n. m.join x (m.of_part p n)) carried (sym (charged charge_of rows i r p by e k))
-      ∙ sym (one_more m law charge_of (rows_of rows) w.chosen i p h ((here rows i r e).1 ∙ k))
-      ∙ ap (λ x. weigh m charge_of (rows_of rows) (bit_or w.chosen x)) (in_word i l ∙ sym is)
+      pub row_chosen : has w.chosen i ≡ true → adding (rows_of rows) w a ≡ w
+      row_chosen h = row_part ∙ same_way _ w (ap (bit_or w.chosen) (is ∙ alone_word i l) ∙ same_set _ _ (λ j. grind (arith, nat_tests, has_or, has_pow))) refl
+
+      pub row_weighed : {W : Type 0} (m : Model W) → Lawful m → (charge_of : Part → ℕ) (weight : W) → has w.chosen i ≡ false
+          → ChargedBy charge_of rows → weight ≡ weigh m charge_of (rows_of rows) w.chosen
+          → m.join weight (m.of_part p r.charge) ≡ weigh m charge_of (rows_of rows) (bit_or w.chosen a)
+      row_weighed m law charge_of weight h by carried =
+          ap₂ (λ x n. m.join x (m.of_part p n)) carried (sym (charged charge_of rows i r p by e k))
+          ∙ sym (one_more m law charge_of (rows_of rows) w.chosen i p h (here rows i r e ∙ k))
+          ∙ ap (λ x. weigh m charge_of (rows_of rows) (bit_or w.chosen x)) (sym (is ∙ alone_word i l))

@@ -1,5 +1,5 @@
 // The copied tree and the sets given so far.
-ghost use Rattle.std.specs.Prelude.{◌≡◌, ◌<◌};
+ghost use Rattle.std.specs.Prelude.{◌≡◌, ◌<◌, IfSome};
 ghost use Rattle.std.specs.List.{slice_get};
 ghost use Rattle.tree.specs.Sets.{alone as one_line};
 ghost use Rattle.cut_sets.specs.WaitingRule.{some_within, adding};
@@ -11,7 +11,7 @@ use cut_sets::way::Way;
 use ranking::order::Ranking;
 use ranking::weight::add_part;
 use tree::line::{Line, Row};
-use tree::line_set::{alone, has, highest, is_within};
+use tree::line_set::{Lines, alone, has, is_within};
 
 // A line with its name, and what it is charged in cents, if it is a part.
 #[derive(Clone, Copy, Default)]
@@ -38,6 +38,7 @@ impl Plan {
     // Line i of the tree, or none from the count on.
     pub fn row(&self, i: usize) -> Option<ChargedRow>
         ensures is_row { result ≡ slice_get self.now.rows.items i }
+        ensures has_no_row_past_a_word { IfSome result (λ _. i < 64) }
     {
         self.rows.get(i).copied()
     }
@@ -45,7 +46,6 @@ impl Plan {
     // The way with line i added: a gate as open; a part as chosen, and its weight joined if it is new.
     #[tactic(auto, using(crate::proofs::Adding::row_none, crate::proofs::Adding::row_gate, crate::proofs::Adding::row_part, crate::proofs::Adding::row_chosen, crate::proofs::Adding::row_weighed))]
     fn add_line<R: Ranking>(&self, waiting: Waiting<R::Weight>, i: usize) -> Waiting<R::Weight>
-        requires in_a_word { i < 64 }
         ensures adds { result.way ≡ adding (rows_of self.now.rows.items) waiting.way (one_line i) }
         ensures keeps_weight { KeepsWeight R.Ranking.model self.now.rows.items waiting result }
     {
@@ -73,7 +73,7 @@ impl Plan {
     }
 
     // The way with the lines of a choice added, the parts as chosen and the gates as open; the weights of parts that are new are joined.
-    #[tactic(auto, using(crate::proofs::Adding::adding_highest, crate::proofs::Adding::adding_none, crate::proofs::Adding::line_in_word, crate::proofs::ListedChoices::less, tree::proofs::Words::no_highest))]
+    #[tactic(auto, using(crate::proofs::Adding::adding_lines))]
     pub fn add_choice<R: Ranking>(
         &self,
         waiting: Waiting<R::Weight>,
@@ -83,9 +83,7 @@ impl Plan {
         ensures carries_the_weight { KeepsWeight R.Ranking.model self.now.rows.items waiting result }
     {
         let mut added = waiting;
-        let mut rest = choice;
-        while let Some(i) = highest(rest) {
-            rest ^= alone(i);
+        for i in Lines::of(choice) {
             added = self.add_line::<R>(added, i);
         }
         added
