@@ -4,7 +4,7 @@ use lib.Bits.{bit_or, bit_xor, or_zero_l, or_zero_r}
 use lib.Count.{ones}
 use Rattle.std.proofs.lemmas.Bool.{both_ways, lt-ltb, cases_lt}
 use Rattle.std.proofs.lemmas.Nat.{xor_lt}
-use Rattle.std.proofs.lemmas.List.{append-nil, drop_all, get_or_append_left, get_or-append-add, get_or-map}
+use Rattle.std.proofs.lemmas.List.{append-nil, length-drop, drop_all, get_or_append_left, get_or-append-add, get_or-map}
 use Rattle.std.proofs.Math.Pow.{pow-lt}
 use Rattle.tree.specs.Sets.{has, alone, Below, Highest}
 use Rattle.tree.proofs.Holding.{lt_below}
@@ -189,3 +189,6 @@ pub next_left : (s q k c : ℕ) → s < 18446744073709551616 → k < binom (ones
 next_left s q k c w h e =
     drop-cons (choices_in s q) k 0 (let n = number_word s q w in omega arith)
     ∙ ap₂ (λ x j. x ∷ drop j (choices_in s q)) (sym e) (sym (add-one k))
+
+pub number_left : (s q k : ℕ) → s < 18446744073709551616 → length (drop k (choices_in s q)) ≡ binom (ones s) q - k
+number_left s q k w = length-drop k (choices_in s q) ∙ ap (λ n. n - k) (number_word s q w)

@@ -1,6 +1,8 @@
 -- Ways that carry the weight of their chosen parts, and their order: by the weights carried, and then as ways are ordered.
-use Rattle.std.specs.Prelude.{◌≡◌, ℕ, Bool, List}
+use Rattle.std.specs.Prelude.{◌≡◌, ℕ, Bool, List, map}
+use Rattle.orders.specs.Lists.{Each}
 use Rattle.orders.specs.Orders.{lex, by}
+use Rattle.orders.specs.Sorted.{insert}
 use Rattle.tree.specs.declared.line.Part.{Part}
 use Rattle.tree.specs.declared.line.Row.{Row}
 use Rattle.ranking.specs.Models.{Model}
@@ -20,3 +22,10 @@ waiting_le le = lex (by (λ w. w.weight) le) (by (λ w. w.way) size_then_lines)
 abbrev pub OrdersWaiting : {W : Type 0} → Model W → (a b : Waiting W) (r : Bool) → Type 0
 OrdersWaiting m a b r =
     (charge_of : Part → ℕ) (rows : List Row) → Carries m charge_of rows a → Carries m charge_of rows b → r ≡ way_le m charge_of rows a.way b.way
+
+-- a way that waits goes into a list of others just where the rule puts it
+abbrev pub InsertsWays : {W : Type 0} → Model W → Type 0
+InsertsWays {W} m =
+    (charge_of : Part → ℕ) (rows : List Row) (w : Waiting W) (ws : List (Waiting W))
+    → Carries m charge_of rows w → Each (Carries m charge_of rows) ws
+    → map (λ v. v.way) (insert (waiting_le m.le) w ws) ≡ insert (way_le m charge_of rows) w.way (map (λ v. v.way) ws)

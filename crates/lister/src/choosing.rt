@@ -1,5 +1,5 @@
 // The choices of exactly `need` of a gate's children, one after the other.
-ghost use Rattle.std.specs.Prelude.{◌≡◌, ℕ, ◌<◌, ◌≤◌, ◌⊎◌, MatchOption, length, slice_index, count_ones};
+ghost use Rattle.std.specs.Prelude.{◌≡◌, ℕ, ◌<◌, ◌≤◌, ◌⊎◌, MatchOption, IfSome, length, slice_index, count_ones};
 ghost use Rattle.std.specs.Iterator.{YieldsFirst, item_count};
 ghost use Rattle.tree.specs.Sets.{Below};
 ghost use Rattle.choices.specs.Counts.{binom, choices};
@@ -11,7 +11,7 @@ use tree::line::Gate;
 use tree::line_set::{alone, highest, size};
 
 // How many choices of exactly `need` lines a set of at most twelve has.
-fn choices_of(set: u64, need: usize) -> u32
+fn number_of_choices(set: u64, need: usize) -> u32
     requires few_lines { count_ones set ≤ 12 }
     requires few_needed { need ≤ 12 }
     ensures { result ≡ binom (count_ones set) need }
@@ -19,8 +19,8 @@ fn choices_of(set: u64, need: usize) -> u32
     count(size(set) as usize, need).unwrap()
 }
 
-// The choice at a place of their list. So many choices leave the highest child out as there are of the other children; those
-// come first, and the others have it.
+// The choice at a place of their list. As many choices leave the highest child out as there are of the other children; those come
+// first, and the others have it.
 fn choice_at(children: u64, need: usize, place: u32) -> u64
     requires few_children { count_ones children ≤ 12 }
     requires few_needed { need ≤ 12 }
@@ -34,7 +34,7 @@ fn choice_at(children: u64, need: usize, place: u32) -> u64
     while let Some(child) = highest(rest) {
         let highest_child = alone(child);
         rest ^= highest_child;
-        let without = choices_of(rest, need);
+        let without = number_of_choices(rest, need);
         if place >= without {
             place -= without;
             need -= 1;
@@ -73,7 +73,7 @@ impl Iterator for Choices {
 
     #[tactic(auto, using(crate::proofs::ListedChoices::none_left, crate::proofs::ListedChoices::next_left))]
     fn next(&mut self) -> Option<u64> {
-        if self.taken >= choices_of(self.children, self.need) {
+        if self.taken >= number_of_choices(self.children, self.need) {
             return None;
         }
         let choice = choice_at(self.children, self.need, self.taken);
@@ -82,14 +82,22 @@ impl Iterator for Choices {
     }
 }
 
+// How many are left, without going over them.
+impl ExactSizeIterator for Choices {
+    #[tactic(auto, using(crate::proofs::ListedChoices::number_left))]
+    fn len(&self) -> usize {
+        number_of_choices(self.children, self.need).saturating_sub(self.taken) as usize
+    }
+}
+
 impl Choices {
-    // The choices of exactly `need` of the gate's children, in ascending order as words. They are not counted, and there is no answer,
-    // where there are more than twelve children or more than twelve are needed.
+    // The choices of exactly `need` of the gate's children, in ascending order as words. Where there are more than twelve children,
+    // or more than twelve are needed, they are not counted, and there is no answer.
     #[tactic(auto, using(crate::proofs::ListedChoices::choices_word, crate::proofs::ListedChoices::number_word))]
     pub fn of(gate: Gate) -> Option<Choices>
         ensures lists_the_choices { MatchOption result ((12 < count_ones gate.children) ⊎ (12 < gate.need))
             (λ left. (n : ℕ) → Below n gate.children → left ≡ choices gate.children n gate.need) }
-        ensures counts_the_choices { MatchOption result ((12 < count_ones gate.children) ⊎ (12 < gate.need)) (λ left. length left ≡ binom (count_ones gate.children) gate.need) }
+        ensures counts_the_choices { IfSome result (λ left. length left ≡ binom (count_ones gate.children) gate.need) }
     {
         let need = usize::from(gate.need);
         if size(gate.children) > 12 || need > 12 {
@@ -113,8 +121,10 @@ mod tests {
             children: 0b1101,
             need: 2,
         };
+        let choices = Choices::of(gate).unwrap();
+        assert_eq!(rt; choices.len(), 3);
         let mut listed = [0; 3];
-        for (place, choice) in listed.iter_mut().zip(Choices::of(gate).unwrap()) {
+        for (place, choice) in listed.iter_mut().zip(choices) {
             *place = choice;
         }
         assert_eq!(rt; listed, [0b0101, 0b1001, 0b1100]);

@@ -72,7 +72,7 @@ impl Plan {
         }
     }
 
-    // The way with the lines of a choice added, the parts as chosen and the gates as open; the weights of parts that are new are joined.
+    // The way with the lines of a choice added: the parts as chosen, the gates as open. The weights of parts that are new are joined.
     #[tactic(auto, using(crate::proofs::Adding::adding_lines))]
     pub fn add_choice<R: Ranking>(
         &self,
@@ -93,8 +93,6 @@ impl Plan {
 #[cfg(test)]
 mod tests {
     use super::*;
-    use crate::waiting::Earlier;
-    use orders::Order;
     use ranking::pairs::ByPrice;
     use tree::line::{Gate, Name, Part};
 
@@ -144,8 +142,5 @@ mod tests {
         assert_eq!(rt; next.way.gates, 0b100);
         assert_eq!(rt; next.weight, (12, 320));
         assert!(rt; plan.contains_given(next.way.chosen) && !plan.contains_given(first.way.chosen));
-        assert!(rt;
-            Earlier::<ByPrice>::at_most(first, closed) && !Earlier::<ByPrice>::at_most(next, first)
-        );
     }
 }

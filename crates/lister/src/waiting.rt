@@ -4,7 +4,7 @@ ghost use Rattle.tree.specs.Sets.{Highest};
 ghost use Rattle.orders.specs.Orders.{lex};
 ghost use Rattle.cut_sets.specs.Ways.{open_first, lowest_chosen, lowest_gate, size_then_lines};
 ghost use Rattle.cut_sets.specs.WaitingRule.{closing};
-ghost use Rattle.lister.specs.Waiting.{waiting_le, OrdersWaiting};
+ghost use Rattle.lister.specs.Waiting.{waiting_le, OrdersWaiting, InsertsWays};
 ghost use Rattle.lister.specs.WaitingLemmas.{waiting_total};
 
 use cut_sets::way::Way;
@@ -77,9 +77,11 @@ impl<R: Ranking> Order for Earlier<R> {
 
     ghost total = { waiting_total R.Ranking.model.le R.Ranking.lawful.order };
 
+    #[tactic(auto, using(crate::proofs::Weighed::inserts_ways))]
     fn at_most(a: Waiting<R::Weight>, b: Waiting<R::Weight>) -> bool
         ensures is_order { result ≡ waiting_le R.Ranking.model.le a b }
         ensures orders_ways { OrdersWaiting R.Ranking.model a b result }
+        ensures inserts_ways_by_the_rule { InsertsWays R.Ranking.model }
     {
         lexicographic(
             a,
@@ -87,5 +89,37 @@ impl<R: Ranking> Order for Earlier<R> {
             |x, y| R::at_most(x.weight, y.weight),
             |x, y| smaller(x.way, y.way),
         )
+    }
+}
+
+#[cfg(test)]
+mod tests {
+    use super::*;
+    use pairing_heap::heap::Heap;
+    use pairing_heap::node::Node;
+    use ranking::pairs::ByPrice;
+
+    fn a_way(chosen: u64, gates: u64) -> Waiting<(u64, u64)> {
+        let way = Way { chosen, gates };
+        Waiting {
+            way,
+            weight: (5, 300),
+        }
+    }
+
+    // Of one weight and size: first the way with an open gate, then the one that has the lowest chosen part.
+    #[test]
+    fn ways_wait_in_order(rt: HostRuntime) {
+        let open = a_way(0b10, 0b100);
+        let done = a_way(0b01, 0);
+        let later = a_way(0b10, 0);
+        let mut nodes = [Node::new(open); 3];
+        let mut heap = Heap::begin::<Earlier<ByPrice>>(&mut nodes, 3);
+        assert!(rt; heap.push::<Earlier<ByPrice>>(&mut nodes, later).is_ok());
+        assert!(rt; heap.push::<Earlier<ByPrice>>(&mut nodes, open).is_ok());
+        assert!(rt; heap.push::<Earlier<ByPrice>>(&mut nodes, done).is_ok());
+        assert!(rt; heap.pop::<Earlier<ByPrice>>(&mut nodes) == Some(open));
+        assert!(rt; heap.pop::<Earlier<ByPrice>>(&mut nodes) == Some(done));
+        assert!(rt; heap.pop::<Earlier<ByPrice>>(&mut nodes) == Some(later));
     }
 }

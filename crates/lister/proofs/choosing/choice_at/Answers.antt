@@ -6,8 +6,8 @@ use Rattle.lister.proofs.choosing.choice_at.Goals as goal
 pub loop-child-init : goal.loop-child-init
 loop-child-init c = begun _ _ _ c.requires.few_children c.requires.few_needed c.requires.there
 
-pub choices_of-without-requires-clause-few_lines : goal.choices_of-without-requires-clause-few_lines
-choices_of-without-requires-clause-few_lines c =
+pub number_of_choices-without-requires-clause-few_lines : goal.number_of_choices-without-requires-clause-few_lines
+number_of_choices-without-requires-clause-few_lines c =
     let few = c.loop-child.invariant.few in
     let n = fewer _ _ _ c.loop-child.auto.rest-fits.fits c.in-Some.ensures.is_the_highest_line c.alone-highest_child.ensures.is_one_line in
     omega arith
@@ -27,7 +27,7 @@ loop-child-preserved c = left_out _ _ _ c.loop-child.auto.rest-fits.fits c.in-So
 
 pub loop-child-preserved-then-place-without : goal.loop-child-preserved-then-place-without
 loop-child-preserved-then-place-without c =
-    rw c.choices_of-without.ensures
+    rw c.number_of_choices-without.ensures
     (put_in _ _ _ c.loop-child.auto.rest-fits.fits c.in-Some.ensures.is_the_highest_line c.alone-highest_child.ensures.is_one_line _ _ _ _ _ _ c.loop-child.invariant (omega arith))
 
 pub returns : goal.returns
