@@ -1,4 +1,5 @@
-// What a read tree answers as a station tree. Line and name are alike but in what they take of a row: a function of both would be longer.
+// What a read tree answers as a station tree. Line and name are alike but in what they take of a row: a function of both
+// would be longer.
 ghost use Rattle.station_file.specs.Trees.{rows_of};
 
 use crate::read_tree::ReadTree;
