@@ -26,8 +26,8 @@ use Rattle.cut_sets.specs.WaitingRule.{adding}
 use Rattle.cut_sets.specs.declared.way.Way.{Way}
 use Rattle.cut_sets.proofs.Cuts.{that_is, that_below}
 use Rattle.cut_sets.proofs.Ways.{same_way}
-use Rattle.lister.specs.Plans.{rows_of, LineCharged, ChargedBy}
-use Rattle.lister.specs.declared.plan.ChargedRow.{ChargedRow}
+use Rattle.lister.specs.Listings.{rows_of, LineCharged, ChargedBy}
+use Rattle.lister.specs.declared.listing.ChargedRow.{ChargedRow}
 
 module _ (rows : List Row) (w : Way) where
   pub adding_none : (c : ℕ) → c ≡ 0 → adding rows w c ≡ w

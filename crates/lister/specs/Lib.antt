@@ -1,4 +1,4 @@
 pub mod WordChoices
 pub mod Waiting
 pub mod WaitingLemmas
-pub mod Plans
+pub mod Listings

@@ -32,19 +32,19 @@ fn choice_at(children: u64, need: usize, place: u32) -> u64
     let mut place = place;
     let mut chosen = 0;
     while let Some(child) = highest(rest) {
-        let highest_child = alone(child);
-        rest ^= highest_child;
+        let child_alone = alone(child);
+        rest ^= child_alone;
         let without = number_of_choices(rest, need);
         if place >= without {
             place -= without;
             need -= 1;
-            chosen |= highest_child;
+            chosen |= child_alone;
         }
     }
     chosen
 }
 
-// In clauses, the list of the choices that are left.
+// The choices of a gate's children that are left; in clauses, their list.
 #[derive(Drop)]
 pub struct Choices {
     children: u64,
@@ -91,12 +91,13 @@ impl ExactSizeIterator for Choices {
 }
 
 impl Choices {
-    // The choices of exactly `need` of the gate's children, in ascending order as words. Where there are more than twelve children,
-    // or more than twelve are needed, they are not counted, and there is no answer.
+    // The choices of exactly `need` of the gate's children, in ascending order as words. Where there are more than twelve
+    // children, or more than twelve are needed, they are not counted, and there is no answer.
     #[tactic(auto, using(crate::proofs::ListedChoices::choices_word, crate::proofs::ListedChoices::number_word))]
     pub fn of(gate: Gate) -> Option<Choices>
         ensures lists_the_choices { MatchOption result ((12 < count_ones gate.children) ⊎ (12 < gate.need))
             (λ left. (n : ℕ) → Below n gate.children → left ≡ choices gate.children n gate.need) }
+        ensures goes_to_twelve { IfSome result (λ _. (count_ones gate.children ≤ 12) × (gate.need ≤ 12)) }
         ensures counts_the_choices { IfSome result (λ left. length left ≡ binom (count_ones gate.children) gate.need) }
     {
         let need = usize::from(gate.need);

@@ -1,6 +1,6 @@
-// The steps of the waiting rule, in code.
+// What a step of the waiting rule is made of.
 #![tactic(auto)]
 
 pub mod choosing;
-pub mod plan;
+pub mod listing;
 pub mod waiting;

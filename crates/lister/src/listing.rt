@@ -1,9 +1,9 @@
 // The copied tree and the sets given so far.
 ghost use Rattle.std.specs.Prelude.{◌≡◌, ◌<◌, IfSome};
 ghost use Rattle.std.specs.List.{slice_get};
-ghost use Rattle.tree.specs.Sets.{alone as one_line};
+ghost use Rattle.tree.specs.Sets.{alone as one_line, lines_of};
 ghost use Rattle.cut_sets.specs.WaitingRule.{some_within, adding};
-ghost use Rattle.lister.specs.Plans.{rows_of, KeepsWeight};
+ghost use Rattle.lister.specs.Listings.{rows_of, KeepsWeight, with_found, with_lines};
 
 use crate::waiting::Waiting;
 use arrayvec::ArrayVec;
@@ -22,12 +22,12 @@ pub struct ChargedRow {
 
 // The rows of the tree as a load found it, and the sets given since, in their order.
 #[derive(Default, Drop)]
-pub struct Plan {
+pub struct Listing {
     pub rows: ArrayVec<ChargedRow, 64>,
     pub given: ArrayVec<u64, 256>,
 }
 
-impl Plan {
+impl Listing {
     // Whether the chosen parts contain a whole set already given.
     pub fn contains_given(&self, chosen: u64) -> bool
         ensures tells_whole_sets { result ≡ some_within self.now.given.items chosen }
@@ -46,6 +46,7 @@ impl Plan {
     // The way with line i added: a gate as open; a part as chosen, and its weight joined if it is new.
     #[tactic(auto, using(crate::proofs::Adding::row_none, crate::proofs::Adding::row_gate, crate::proofs::Adding::row_part, crate::proofs::Adding::row_chosen, crate::proofs::Adding::row_weighed))]
     fn add_line<R: Ranking>(&self, waiting: Waiting<R::Weight>, i: usize) -> Waiting<R::Weight>
+        ensures value { result ≡ with_found R.Ranking.model waiting i (slice_get self.now.rows.items i) }
         ensures adds { result.way ≡ adding (rows_of self.now.rows.items) waiting.way (one_line i) }
         ensures keeps_weight { KeepsWeight R.Ranking.model self.now.rows.items waiting result }
     {
@@ -72,13 +73,15 @@ impl Plan {
         }
     }
 
-    // The way with the lines of a choice added: the parts as chosen, the gates as open. The weights of parts that are new are joined.
+    // The way with the lines of a choice added: the parts as chosen, the gates as open. The weights of parts that are new
+    // are joined.
     #[tactic(auto, using(crate::proofs::Adding::adding_lines))]
     pub fn add_choice<R: Ranking>(
         &self,
         waiting: Waiting<R::Weight>,
         choice: u64,
     ) -> Waiting<R::Weight>
+        ensures adds_its_lines_from_the_lowest_on { result ≡ with_lines R.Ranking.model self.now.rows.items waiting (lines_of choice) }
         ensures adds_the_choice { result.way ≡ adding (rows_of self.now.rows.items) waiting.way choice }
         ensures carries_the_weight { KeepsWeight R.Ranking.model self.now.rows.items waiting result }
     {
@@ -115,18 +118,18 @@ mod tests {
     }
 
     // Parts 0 and 1, and gate 2.
-    fn a_plan() -> Plan {
-        let mut plan = Plan::default();
-        plan.rows.push(a_part(300, 5));
-        plan.rows.push(a_part(20, 7));
-        plan.rows.push(a_row(Line::Gate(Gate::NEVER), 0));
-        plan.given.push(0b10);
-        plan
+    fn a_listing() -> Listing {
+        let mut listing = Listing::default();
+        listing.rows.push(a_part(300, 5));
+        listing.rows.push(a_part(20, 7));
+        listing.rows.push(a_row(Line::Gate(Gate::NEVER), 0));
+        listing.given.push(0b10);
+        listing
     }
 
     #[test]
     fn a_choice_is_added(rt: HostRuntime) {
-        let plan = a_plan();
+        let listing = a_listing();
         let way = Way {
             chosen: 0b001,
             gates: 0b100,
@@ -137,10 +140,12 @@ mod tests {
         };
         let (gate, closed) = first.close_highest().unwrap();
         assert_eq!(rt; gate, 2);
-        let next = plan.add_choice::<ByPrice>(closed, 0b111);
+        let next = listing.add_choice::<ByPrice>(closed, 0b111);
         assert_eq!(rt; next.way.chosen, 0b011);
         assert_eq!(rt; next.way.gates, 0b100);
         assert_eq!(rt; next.weight, (12, 320));
-        assert!(rt; plan.contains_given(next.way.chosen) && !plan.contains_given(first.way.chosen));
+        assert!(rt;
+            listing.contains_given(next.way.chosen) && !listing.contains_given(first.way.chosen)
+        );
     }
 }
