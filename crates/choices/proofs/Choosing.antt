@@ -1,4 +1,5 @@
--- The choices of exactly q lines of a set: they are the sets of q lines that it has, each once, and as many as Pascal's rule says.
+-- The choices of exactly q lines of a set: they are the sets of q lines that it has, each once, and as many as Pascal's
+-- rule says.
 use Rattle.std.proofs.Common.{◌≡◌, ℕ, zero, suc, ◌+◌, ◌^◌, ◌<◌, ◌≤◌, Bool, true, false, cond, ◌⊎◌, List, [], ◌∷◌, ◌++◌, map, length, sym, refl, ap, ◌∙◌, subst, ap₂, inl, inr, ⊎_elim, add_comm, arith, length-append, pow_pos}
 use lib.Bits.{bit_or, bit_xor, or_zero_r, or_disjoint}
 use lib.Count.{ones}

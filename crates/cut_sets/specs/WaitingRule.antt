@@ -60,7 +60,7 @@ abbrev pub loaded : List Row → Search
 loaded rows = search_of (top_way rows ∷ []) []
 
 module _ {W : Type 0} (m : Model W) (charge_of : Part → ℕ) (rows : List Row) (slots : ℕ) where
-  -- a step takes the first way
+  -- a step takes the first way: the head of the list, which is in order at each state that steps reach (Laws)
   pub data Step : Search → Search → Type 0 where
     -- its chosen parts contain a whole set already given: it is struck
     struck : {w : Way} {ws : List Way} {sets : List ℕ}

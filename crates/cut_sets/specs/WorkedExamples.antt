@@ -60,6 +60,6 @@ worked =
     -- six of twelve parts: 924 ways enter
     ∷ record { lines = twelve (vote 6 0b111111111111 ∷ []); slots = 924; outcome = first_step_made }
     ∷ record { lines = twelve (vote 6 0b111111111111 ∷ []); slots = 923; outcome = blocked_at_once }
-    -- a lantern of one tier with two lamps
+    -- the lines that a lantern of one tier with two lamps has, with other names
     ∷ record { lines = part ∷ part ∷ vote 1 0b011 ∷ vote 1 0b100 ∷ []; slots = 512; outcome = lists (0b001 ∷ 0b010 ∷ []) }
     ∷ []

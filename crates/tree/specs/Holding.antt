@@ -1,5 +1,5 @@
 -- Which lines of a tree hold when the parts of a set have failed. One walk up the lines decides it, since children stand
--- below their gate. The laws above this definition: a part holds exactly when it is in the set, a gate exactly when at
+-- below their gate. The laws of it stand at the end: a part holds exactly when it is in the set, a gate exactly when at
 -- least `need` of its children hold.
 use Rattle.std.specs.Prelude.{◌≡◌, ℕ, zero, suc, ◌-◌, ◌^◌, Bool, cond, List, [], ◌∷◌, length, bit_and, bit_or, count_ones, nat_le}
 use Rattle.tree.specs.Lines.{never}

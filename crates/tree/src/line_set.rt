@@ -63,7 +63,7 @@ fn top_line(set: u64) -> usize
 pub fn highest(set: u64) -> Option<usize>
     ensures is_the_highest_line { MatchOption result (set ≡ 0) (λ g. Highest set g) }
 {
-    if set == 0 { None } else { Some(top_line(set)) }
+    (set != 0).then(|| top_line(set))
 }
 
 // Whether a is b or has the lowest line in which the two differ: by it the order of sets goes.
