@@ -1,7 +1,9 @@
 // The weight of a set of parts, one part after another.
 ghost use Rattle.std.specs.Prelude.{◌≡◌};
+ghost use Rattle.ranking.specs.Models.{price, rarity, size, class};
 ghost use Rattle.ranking.specs.Weights.{WeighsNone, InAnyOrder, WeighsOneMore, WeighsInTwo, WeighsNoLess};
 
+use crate::kinds::{Class, Price, Rarity, Size};
 use crate::order::Ranking;
 use tree::line::Part;
 
@@ -14,6 +16,10 @@ pub fn add_part<R: Ranking>(weight: R::Weight, part: Part, charge: u64) -> R::We
     ensures weighs_in_any_order { InAnyOrder R.Ranking.model }
     ensures weighs_set_within_and_rest { WeighsInTwo R.Ranking.model }
     ensures weighs_no_less_than_set_within { WeighsNoLess R.Ranking.model }
+    ensures price_is_by_the_sum_of_charges { ⟦<Price as Ranking>⟧.model ≡ price }
+    ensures rarity_is_by_the_sum_of_rarities { ⟦<Rarity as Ranking>⟧.model ≡ rarity }
+    ensures size_is_by_the_number_of_parts { ⟦<Size as Ranking>⟧.model ≡ size }
+    ensures class_is_by_the_worst_class { ⟦<Class as Ranking>⟧.model ≡ class }
 {
     R::join(weight, R::weigh(part, charge))
 }
