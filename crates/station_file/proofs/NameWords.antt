@@ -1,9 +1,9 @@
 -- Names as words.
-use Rattle.std.proofs.Common.{◌≡◌, ℕ, zero, suc, ◌+◌, ◌*◌, ◌≤◌, min, true, List, [], ◌∷◌, ◌++◌, length, get_or, take, drop, replicate, Some, None, w64, sym, refl, ap, ◌∙◌, ⊎_elim, arith, ◌&&◌}
-use Rattle.std.specs.Int.{from_le_bytes}
+use Rattle.std.proofs.Common.{◌≡◌, ℕ, suc, ◌+◌, ◌*◌, ◌^◌, ◌<◌, ◌≤◌, min, true, List, [], ◌∷◌, length, get_or, take, drop, Some, None, sym, refl, ap, ◌∙◌, subst, ⊎_elim, pow-suc, arith, length-drop, ◌&&◌}
+use native.Mathlib.Nat.{pow-le-pow_right}
 use Rattle.std.specs.List.{list_all}
 use Rattle.std.proofs.lemmas.Bool.{cond-true, cases_lt}
-use Rattle.std.proofs.lemmas.List.{at_drop_more, at_drop_all, get_or-drop, get_or_past, take_all, drop_all}
+use Rattle.std.proofs.lemmas.List.{at_drop_more, at_drop_all, get_or-drop, take_all, drop_all}
 use Rattle.tree.specs.Names.{packed, name_byte, name_bytes, well_named, name_of}
 use Rattle.station_file.specs.Names.{name_from}
 
@@ -11,50 +11,25 @@ pub names_all : (bs : List ℕ) → name_bytes bs ≡ list_all name_byte bs
 names_all [] = refl
 names_all (b ∷ bs) = ap (λ t. name_byte b && t) (names_all bs)
 
--- ---- the bytes of a word, filled up with zeros
+-- ---- the bytes of a word, from the last on
 
-pack_at : (bs : List ℕ) (k : ℕ) → packed (drop k bs) ≡ get_or bs k 0 + 256 * packed (drop (k + 1) bs)
-pack_at bs k =
-    ⊎_elim (λ more. at_drop_more packed bs k 0 more)
-    (λ past.
-    let here = at_drop_all packed bs k past in
-    let next = at_drop_all packed bs (k + 1) (omega arith) in
-    omega (arith, here, next, get_or_past bs k 0 past))
-    (cases_lt k (length bs))
+pub pack_step : (bs : List ℕ) (i : ℕ) → i < length bs → packed (drop i bs) ≡ get_or bs i 0 + 256 * packed (drop (i + 1) bs)
+pack_step bs i h = at_drop_more packed bs i 0 h
 
-zeros : (n k : ℕ) → get_or {A = ℕ} (replicate n 0) k 0 ≡ 0
-zeros zero k = refl
-zeros (suc n) zero = refl
-zeros (suc n) (suc k) = zeros n k
+pub pack_end : (bs : List ℕ) (i : ℕ) → length bs ≤ i → packed (drop i bs) ≡ 0
+pack_end bs i h = at_drop_all packed bs i h
 
-filled : (n : ℕ) (bs : List ℕ) (k : ℕ) → get_or (bs ++ drop n (replicate 8 0)) k 0 ≡ get_or bs k 0
-filled n [] k = get_or-drop n (replicate 8 0) k 0 ∙ zeros 8 (n + k)
-filled n (b ∷ bs) zero = refl
-filled n (b ∷ bs) (suc k) = filled n bs k
+pub pack_below : (bs : List ℕ) → ((k : ℕ) → get_or bs k 0 < 256) → packed bs < 256 ^ length bs
+pack_below [] small = omega arith
+pack_below (b ∷ bs) small =
+    omega (arith, small 0, pack_below bs (λ k. small (suc k)), pow-suc 256 (length bs))
 
-pub word_filled : (bs : List ℕ) → length bs ≤ 8 → from_le_bytes w64 (bs ++ drop (length bs) (replicate 8 0)) ≡ packed bs
-word_filled bs few =
-    let n = length bs in
-    omega (
-      arith,
-      filled n bs 0,
-      filled n bs 1,
-      filled n bs 2,
-      filled n bs 3,
-      filled n bs 4,
-      filled n bs 5,
-      filled n bs 6,
-      filled n bs 7,
-      pack_at bs 0,
-      pack_at bs 1,
-      pack_at bs 2,
-      pack_at bs 3,
-      pack_at bs 4,
-      pack_at bs 5,
-      pack_at bs 6,
-      pack_at bs 7,
-      at_drop_all packed bs 8 few,
-    )
+-- room for one byte more
+pub pack_room : (bs : List ℕ) (i : ℕ) → ((k : ℕ) → get_or bs k 0 < 256) → length bs ≤ 8 → 0 < i → i ≤ length bs → packed (drop i bs) < 256 ^ 7
+pack_room bs i small few lo hi =
+    let k : length (drop i bs) ≤ 7 = simp length-drop (omega arith) in
+    let p : packed (drop i bs) < 256 ^ length (drop i bs) = pack_below (drop i bs) (λ k. subst (λ b. b < 256) (sym (get_or-drop i bs k 0)) (small (i + k))) in
+    omega (arith, p, pow-le-pow_right {n = 256} (omega arith) {i = length (drop i bs)} {j = 7} k)
 
 -- ---- the two words of a name
 

@@ -29,3 +29,12 @@ has_count Or n = nat_le 1 n && nat_le n 12
 has_count AtLeast n = nat_le 2 n && nat_le n 13
 has_count Always n = n == 0
 has_count Never n = n == 0
+
+-- the most fields that such a record has after its letter
+abbrev pub most_fields : Kind → ℕ
+most_fields Part = 4
+most_fields And = 12
+most_fields Or = 12
+most_fields AtLeast = 13
+most_fields Always = 0
+most_fields Never = 0

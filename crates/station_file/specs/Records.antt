@@ -55,10 +55,15 @@ gate set need = a_line.Gate (record { children = set; need = need })
 abbrev pub counted : {A : Type 0} → ℕ → ℕ → ℕ → List (List ℕ) → Result A StationFault → Result A StationFault
 counted low high line fs k = cond (nat_le low (length fs) && nat_le (length fs) high) k (Err (station_fault line 0 FieldCount))
 
--- the number that the next field says
-abbrev pub next_number : ℕ → ℕ → ℕ → ℕ → List (List ℕ) → Result ℕ StationFault
-next_number low high line field [] = Err (station_fault line 0 FieldCount)
-next_number low high line field (f ∷ fs) = up (number_field low high line field f)
+-- the next field; where there is none, the line has too few
+abbrev pub next_field : ℕ → List (List ℕ) → Result (List ℕ) StationFault
+next_field line [] = Err (station_fault line 0 FieldCount)
+next_field line (f ∷ fs) = Ok f
+
+-- is no field left?
+abbrev pub none_left : ℕ → List (List ℕ) → Result (Unit {0}) StationFault
+none_left line [] = Ok tt
+none_left line (f ∷ fs) = Err (station_fault line 0 FieldCount)
 
 abbrev pub part_numbers : ℕ → List ℕ → List ℕ → List ℕ → List ℕ → Result Line StationFault
 part_numbers line r c d p =

@@ -1,6 +1,6 @@
 // The letter of a record.
 ghost use Rattle.std.specs.Prelude.{◌≡◌, ◌&&◌, nat_le};
-ghost use Rattle.station_file.specs.Letters.{kind_of, Letters, has_count};
+ghost use Rattle.station_file.specs.Letters.{kind_of, Letters, has_count, most_fields};
 
 use tabbed_text::letters::{UnknownLetter, letter};
 
@@ -33,6 +33,18 @@ impl TryFrom<char> for Kind {
 }
 
 impl Kind {
+    // The most fields that a record of that kind has after its letter.
+    pub fn most(self) -> usize
+        ensures { result ≡ most_fields self }
+    {
+        match self {
+            Kind::Part => 4,
+            Kind::And | Kind::Or => 12,
+            Kind::AtLeast => 13,
+            Kind::Always | Kind::Never => 0,
+        }
+    }
+
     // Whether a record of that kind has so many fields after its letter.
     pub fn takes(self, count: usize) -> bool
         ensures { result ≡ has_count self count }

@@ -25,15 +25,16 @@ fn is_name(bytes: &[u8]) -> bool
     (1..=12).contains(&bytes.len()) && all_name_bytes(bytes)
 }
 
-// Up to eight bytes as one word, the first lowest.
-#[tactic(auto, using(crate::proofs::NameWords::word_filled))]
+// Up to eight bytes as one word, the first lowest. Byte by byte: to copy them into an array first takes longer for most names.
 fn word_of(bytes: &[u8]) -> u64
     requires { length bytes.now ≤ 8 }
     ensures { result ≡ packed bytes.now }
 {
-    let mut word = [0; 8];
-    word[..bytes.len()].copy_from_slice(bytes);
-    u64::from_le_bytes(word)
+    let mut word = 0;
+    for i in (0..bytes.len()).rev() {
+        word = 256 * word + u64::from(bytes[i]);
+    }
+    word
 }
 
 // The name, where the bytes are one.

@@ -26,11 +26,12 @@ fn read_rows(bytes: &[u8], rows: &mut ArrayVec<Row, 64>) -> Result<(), StationFa
         if rows.is_full() {
             return Err(StationFault::at(rows.len() + 1, 0, StationCause::TooManyLines));
         }
-        // A copy of the walk reads the line, so that nothing has to be said of where it stops.
         let above = rows.as_slice();
-        let row = Record { fields, above }.row()?;
-        rows.push(row);
+        let mut record = Record { fields, above };
+        let row = record.row()?;
+        fields = record.fields;
         fields.end_line();
+        rows.push(row);
     }
     Ok(())
 }

@@ -10,8 +10,8 @@ mod row;
 
 // The fields that are left to read in the line, and the lines above it.
 #[derive(Clone, Copy)]
-pub struct Record<'a> {
-    pub fields: Fields<'a>,
-    pub above: &'a [Row],
+pub struct Record<'t, 'r> {
+    pub fields: Fields<'t>,
+    pub above: &'r [Row],
     ghost few: { length above.now < 64 },
 }

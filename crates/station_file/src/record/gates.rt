@@ -12,7 +12,7 @@ use crate::record::Record;
 use tree::line::{Gate, Line};
 use tree::line_set::{alone, has};
 
-impl<'a> Record<'a> {
+impl<'t, 'r> Record<'t, 'r> {
     // The line above that the field names.
     #[tactic(auto, using(crate::proofs::Reading::named_first))]
     fn named(&self, name: &[u8]) -> Option<usize>
@@ -57,13 +57,15 @@ impl<'a> Record<'a> {
     }
 
     // A gate that needs as many of so many children as its third field says.
+    #[tactic(auto, using(crate::proofs::Reading::vote_in_turn))]
     pub fn vote(mut self, count: usize) -> Result<Line, StationFault>
         requires counts { length (more_fields (remains self.fields)) ≡ count + 1 }
         requires few { count ≤ 12 }
         ensures { result ≡ vote_fields (line_of self.entry) (rows_above self.entry) (more_fields (remains self.entry.fields)) }
     {
+        let digits = self.field()?;
         // `as`: the check proves that neither number is cut, so that there is no failure to answer.
-        let need = self.number(3, 1, count as u32)?;
+        let need = self.number(digits, 3, 1, count as u32)?;
         self.gate(4, need as u8)
     }
 }

@@ -1,6 +1,6 @@
 // The record of a part: name, E, rarity, class, discount, price.
-ghost use Rattle.std.specs.Prelude.{◌≡◌, length};
-ghost use Rattle.tabbed_text.specs.Fields.{more_fields};
+ghost use Rattle.std.specs.Prelude.{◌≡◌};
+ghost use Rattle.tabbed_text.specs.Fields.{more_fields, after};
 ghost use Rattle.tabbed_text.specs.Remains.{remains};
 ghost use Rattle.station_file.specs.Lines.{line_of};
 ghost use Rattle.station_file.specs.Records.{part_body};
@@ -9,17 +9,22 @@ use crate::faults::StationFault;
 use crate::record::Record;
 use tree::line::{Line, Part};
 
-impl<'a> Record<'a> {
+impl<'t, 'r> Record<'t, 'r> {
     // The part that the four fields after the letter say.
-    #[tactic(auto, using(crate::proofs::Reading::part_unrolled))]
-    pub fn part(mut self) -> Result<Line, StationFault>
-        requires { length (more_fields (remains self.fields)) ≡ 4 }
-        ensures { result ≡ part_body (line_of self.entry) (more_fields (remains self.entry.fields)) }
+    #[tactic(auto, using(crate::proofs::Reading::part_in_turn))]
+    pub fn part(&mut self) -> Result<Line, StationFault>
+        ensures value { result ≡ part_body (line_of self.old) (more_fields (remains self.old.fields)) }
+        ensures next_line { after 10 (remains self.new.fields) ≡ after 10 (remains self.old.fields) }
     {
-        let rarity = self.number(3, 0, 60_000)?;
-        let class = self.number(4, 0, 9)?;
-        let discount = self.number(5, 0, 1_000)?;
-        let price = self.number(6, 0, 10_000_000)?;
+        let rarity = self.field()?;
+        let class = self.field()?;
+        let discount = self.field()?;
+        let price = self.field()?;
+        self.end()?;
+        let rarity = self.number(rarity, 3, 0, 60_000)?;
+        let class = self.number(class, 4, 0, 9)?;
+        let discount = self.number(discount, 5, 0, 1_000)?;
+        let price = self.number(price, 6, 0, 10_000_000)?;
         // `as`: within their limits class and discount are not cut, and no failure is left to answer.
         Ok(Line::Part(Part {
             rarity,
