@@ -52,7 +52,8 @@ impl<T: Tree> Tree for Fixing<T> {
 
     #[tactic(auto, using(crate::proofs::Overlaid::overlaid_at))]
     fn line(&self, i: usize) -> Option<Line> {
-        self.inner.line(i).map(|line| self.standing(i, line))
+        let line = self.inner.line(i)?;
+        Some(self.standing(i, line))
     }
 
     #[tactic(auto, using(crate::proofs::Overlaid::overlaid_name))]

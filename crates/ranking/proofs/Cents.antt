@@ -1,8 +1,9 @@
 -- How far prices grow, and that each is the least whole number of cents.
-use Rattle.std.proofs.Common.{◌≡◌, ℕ, zero, suc, ◌+◌, ◌-◌, ◌*◌, ◌/◌, ◌^◌, ◌<◌, ◌≤◌, refl, ap, ◌∙◌, mul-le-mul_left, pow-suc, mul-add, add-one, arith, lit<}
+use Rattle.std.proofs.Common.{◌≡◌, ℕ, zero, suc, ◌+◌, ◌-◌, ◌*◌, ◌/◌, ◌^◌, ◌<◌, ◌≤◌, eqb, refl, ap, ◌∙◌, mul-le-mul_left, pow-suc, mul-add, add-one, arith, lit<}
 use native.Mathlib.Nat.{mul-sub, pow-le-pow_right}
+use Rattle.std.proofs.lemmas.Bool.{cond_both}
 use Rattle.tree.specs.declared.line.Part.{Part}
-use Rattle.ranking.specs.Charges.{rise, grown, discounted, LeastCents, InWholeCents}
+use Rattle.ranking.specs.Charges.{rise, grown, discounted, charge, LeastCents, InWholeCents}
 
 -- a fifth a year at most doubles a price
 rise_within : (growth price : ℕ) → growth ≤ 200 → rise growth price ≤ price
@@ -22,9 +23,14 @@ grown_below price growth i p g h =
     let few : 2 ^ i ≤ 2 ^ 10 = pow-le-pow_right {n = 2} (lit< tt) h in
     omega (arith, grown_within price growth i g, mul-le-mul_left price few)
 
+pub charge_below : (year growth : ℕ) (part : Part) → part.price < 2 ^ 32 → growth ≤ 200 → year ≤ 10 → charge year growth part < 2 ^ 42
+charge_below year growth part p g h =
+    let now : discounted part < 2 ^ 42 = omega arith in
+    cond_both (eqb year 0) (discounted part) (grown part.price growth year) (λ n. n < 2 ^ 42) (λ _. now) (λ _. grown_below part.price growth year p g h)
+
 -- so there is room in 64 bits for one more rise
 module _ (price growth i cents : ℕ) (e : cents ≡ grown price growth i) (p : price < 2 ^ 32) (g : growth ≤ 200) (h : i ≤ 10) where
-  pub room_for_rise : cents * growth < 2 ^ 64
+  pub room_for_rise : cents * growth + 999 < 2 ^ 64
   room_for_rise = omega (arith, grown_below price growth i p g h, mul-le-mul_left cents g)
 
   pub room_for_sum : cents + rise growth cents < 2 ^ 64

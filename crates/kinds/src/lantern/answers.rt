@@ -17,10 +17,10 @@ impl Tree for Lantern {
     }
 
     fn line(&self, i: usize) -> Option<Line> {
-        self.row(i).map(|row| row.line)
+        Some(self.row(i)?.line)
     }
 
     fn name(&self, i: usize) -> Option<Name> {
-        self.row(i).map(|row| row.name)
+        Some(self.row(i)?.name)
     }
 }

@@ -55,7 +55,10 @@ impl Lantern {
     pub(crate) fn row(&self, i: usize) -> Option<Row>
         ensures { result ≡ slice_get (rows_of self.now) i }
     {
-        (i < self.lines()).then(|| self.made_row(i))
+        if i >= self.lines() {
+            return None;
+        }
+        Some(self.made_row(i))
     }
 
     #[tactic(auto, using(crate::proofs::LanternLaws::lantern_length, crate::specs::LanternRows::lamp_row, crate::specs::LanternRows::tier_row, crate::specs::LanternRows::last_row))]
