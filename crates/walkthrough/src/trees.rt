@@ -54,10 +54,11 @@ fn fixed<T: Tree>(
 }
 
 fn lit(rt: &HostRuntime, tiers: u32, lamps: u32, lamp_need: u32) -> io::Result<()> {
-    print!(rt; "lantern of {tiers} tiers of {lamps} lamps, needs {lamp_need}: ")?;
     match Lantern::new(tiers, lamps, lamp_need, 1, LAMP) {
-        Ok(_) => println!(rt; "made"),
-        Err(fault) => println!(rt; "{fault}"),
+        Ok(_) => println!(rt; "lantern of {tiers} tiers of {lamps} lamps, needs {lamp_need}: made"),
+        Err(fault) => {
+            println!(rt; "lantern of {tiers} tiers of {lamps} lamps, needs {lamp_need}: {fault}")
+        }
     }
 }
 
