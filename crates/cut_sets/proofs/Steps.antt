@@ -127,6 +127,11 @@ count_of w = count_for w.gates
 unfoldable pub left_of : Search → ℕ
 left_of d = total count_of d.waiting
 
+-- each way that waits counts
+pub left_more : (d : Search) → length d.waiting ≤ left_of d
+unfolding left_of
+left_more d = length_le count_of d.waiting (λ w. count_pos w.gates)
+
 all_less : (s : ℕ) (ws : List Way) → ((w : Way) → In w ws → w.gates < s) → length ws ≤ 4096 → total count_of ws < count_for s
 unfolding count_for
 all_less zero [] h k = omega arith

@@ -19,15 +19,15 @@ use Rattle.kinds.specs.Runs.{same_many, run_meets}
 -- ---- rows made from their numbers
 
 module _ (f : ℕ → Row) where
-  nth_made : (n i : ℕ) → i < n → slice_get (map f (range_with_len 0 n)) i ≡ Some (f i)
+  pub nth_made : (n i : ℕ) → i < n → slice_get (map f (range_with_len 0 n)) i ≡ Some (f i)
   nth_made n i h =
       slice_get-get_or (map f (range_with_len 0 n)) i (f 0) (omega (arith, length-map-range_with_len f 0 n))
       ∙ ap Some (get_or-map-range_with_len f 0 n i i (f 0) h (zero-add i))
 
-  nth_unmade : (n i : ℕ) → n ≤ i → slice_get (map f (range_with_len 0 n)) i ≡ None
+  pub nth_unmade : (n i : ℕ) → n ≤ i → slice_get (map f (range_with_len 0 n)) i ≡ None
   nth_unmade n i h = slice_get_past (map f (range_with_len 0 n)) i (omega (arith, length-map-range_with_len f 0 n))
 
-  line_made : (a n i j : ℕ) → i < n → a + i ≡ j → the_line (map f (range_with_len a n)) i ≡ (f j).line
+  pub line_made : (a n i j : ℕ) → i < n → a + i ≡ j → the_line (map f (range_with_len a n)) i ≡ (f j).line
   line_made a zero i j h e = absurd (omega arith)
   line_made a (suc n) zero j h e = ap (λ k. (f k).line) (let x : a ≡ j = omega arith in x)
   line_made a (suc n) (suc i) j h e = line_made (a + 1) n i j (omega arith) (omega arith)

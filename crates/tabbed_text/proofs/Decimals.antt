@@ -5,14 +5,14 @@ use Rattle.std.proofs.lemmas.List.{at_drop_more}
 use Rattle.tabbed_text.specs.Numbers.{numeral, value_from, value, number_in}
 
 -- more digits never write less
-value_ge : (n : ℕ) (bs : List ℕ) → n ≤ value_from n bs
+pub value_ge : (n : ℕ) (bs : List ℕ) → n ≤ value_from n bs
 value_ge n [] = omega arith
 value_ge n (b ∷ bs) = omega (arith, value_ge (10 * n + (b - 48)) bs)
 
-none_high : (low high : ℕ) (bs : List ℕ) → high < value bs → None ≡ number_in low high bs
+pub none_high : (low high : ℕ) (bs : List ℕ) → high < value bs → None ≡ number_in low high bs
 none_high low high bs h = sym (cond-false (numeral bs && leb low (value bs) && leb (value bs) high) (Some (value bs)) None (and_right _ _ (lt-leb (value bs) high h)))
 
-value_step : (n : ℕ) (bs : List ℕ) (i : ℕ) → i < length bs → value_from n (drop i bs) ≡ value_from (10 * n + (get_or bs i 0 - 48)) (drop (i + 1) bs)
+pub value_step : (n : ℕ) (bs : List ℕ) (i : ℕ) → i < length bs → value_from n (drop i bs) ≡ value_from (10 * n + (get_or bs i 0 - 48)) (drop (i + 1) bs)
 value_step n bs i h = at_drop_more (value_from n) bs i 0 h
 
 -- a number that the digits read so far and the next one pass
