@@ -71,7 +71,7 @@ impl fmt::Display for NameText {
 
 // The text of a name, over its lent bytes. A name that keeps its rules has one: it is of ASCII bytes, at most twelve.
 #[tactic(auto, using(crate::proofs::Texts::written_read, crate::proofs::Texts::name_short, crate::proofs::Texts::name_utf8))]
-fn text_of(name: Name, bytes: &mut [u8; 12]) -> Option<&str>
+pub fn text_of(name: Name, bytes: &mut [u8; 12]) -> Option<&str>
     ensures spells_the_name { IfSome result (λ text. text.now ≡ spelled name) }
     ensures every_good_name_has_one { name_ok name ≡ true → is_some result ≡ true }
 {
